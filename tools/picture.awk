@@ -18,6 +18,7 @@ function draw_event(    slot, next_slot, seen, text, by) {
     text = "the future of table " slot
     slot = next_slot
   }
+  add_retired()
   add_line("blank", "")
   for (by = 1; by <= workers; by++) if (by in commands) add_worker(by)
   add_line("blank", "")
@@ -62,6 +63,18 @@ function add_table(slot, text,    wide, level, from, base, n, unit, each, behind
   for (at = 0; at < each; at++)
     for (i = 1; i <= n; i++)
       if (word_at(from[i] + at) != 0) add_chain(base[i] + unit * at, from[i] + at, wide)
+}
+
+# A line for each retired table, with the section words that were kept of the workers, in their order.
+function add_retired(    slot, by, list, found) {
+  for (slot = 0; slot < 8; slot++) {
+    if (word_at(24 + 32 * slot + 4) != 2) continue
+    if (!found++) add_line("blank", "")
+    list = ""
+    for (by = 1; by <= workers; by++) list = list " " word_at(24 + 32 * slot + 7 + by)
+    read_shape(slot)
+    add_line("note", "table " slot ": " shape_text() ", retired, with the section words" list)
+  }
 }
 
 # The longest name that a bucket or an entry of the table can have says how wide they are, so that

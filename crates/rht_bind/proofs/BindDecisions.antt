@@ -82,7 +82,7 @@ module _ (env : Env) (mix : ℕ → ℕ → ℕ → ℕ) (c : ℕ) (port owner :
       let j = word_index env mix claimed.bucket.place in
       let τ = home_is.passing.at.table in
       let of =
-      (home-word env mix M G whole port τ j (at-there env mix whole.tables claimed.table home_is.passing.at) home_is.here).of in
+      (home-word env mix M G whole port τ j (at-there home_is.passing.at) home_is.here).of in
       let table : table_at G j ≡ τ = ap table_of_page of in
       let ready : IsArming env mix c j G = record {
         holder = lock.holder;
@@ -109,13 +109,14 @@ module _ (env : Env) (mix : ℕ → ℕ → ℕ → ℕ) (c : ℕ) (port owner :
           slots = k.only.slots;
           pages_in = k.only.pages_in;
           works = k.only.works;
+          reads = k.only.reads;
         }) (record {
           has = record { mine = k.means.node.has.mine; among = k.means.node.has.among };
           chain = k.means.node.chain;
           key = k.means.node.key;
           owner = k.means.node.owner;
           list = k.means.node.list;
-        }) (TableMeans-stay env mix c M M G G'
+        }) (TableMeans-stay env mix c M M G G' refl
             (tables_stay env mix M G G' whole (same_tables env mix G G'.bucket G.node G.bound G.raised)
             (armed_passes env mix c j G ready)) (at_home port owner claimed) home_is) (record {
               lock = record {
@@ -144,7 +145,8 @@ module _ (env : Env) (mix : ℕ → ℕ → ℕ → ℕ) (c : ℕ) (port owner :
       (knows_of port owner (own port owner claimed.attempt.node) (at_home port owner claimed) bucket) M G
       → BindKnows (unlocking_full claimed why) M G
   full_knows claimed why bucket lock k =
-      record { knowing = plainly env mix k.only k.means.node k.means.table.passing.at lock; fits = tt }
+      let passing = k.means.table.passing in
+      record { knowing = plainly env mix k.only k.means.node (record { at = passing.at; since = passing.since }) lock; fits = tt }
 
   -- the future of a table in which the port was looked for in vain: where there is none, a chain that is
   -- full takes no node

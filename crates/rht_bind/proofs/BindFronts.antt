@@ -1,5 +1,5 @@
 -- The store that puts a bind's node in front of the list of its port, in place of the first node.
-use Rattle.std.proofs.Common.{◌≡◌, ◌⊎◌, ℕ, ◌+◌, ◌^◌, ◌<◌, ◌≤◌, List, [], ◌∷◌, length, Option, Some, None, Bool, false, refl, sym, ◌∙◌, ap, subst, inl, inr, arith}
+use Rattle.std.proofs.Common.{◌≡◌, ◌⊎◌, ℕ, ◌+◌, ◌^◌, ◌<◌, ◌≤◌, List, [], ◌∷◌, length, Option, Some, None, Bool, true, false, refl, sym, ◌∙◌, ap, subst, inl, inr, arith}
 use Rattle.std.proofs.Math.Nat.{mod-eq_of_lt}
 use Rattle.rht_words.specs.declared.env.Env.{Env}
 use Rattle.rht_words.specs.declared.op.Op.{Op}
@@ -180,7 +180,7 @@ module _ (env : Env) (mix : ℕ → ℕ → ℕ → ℕ) (c : ℕ) (port owner :
 
         -- what the caller has behind it: no node, and the lock where a node is before
         record LeftInFront : Type 0 where
-          only : HasOnly env mix c front None (lock_left bucket.place list.before) None false None [] false
+          only : HasOnly env mix c front None (lock_left bucket.place list.before) None false None [] false true
           locks : (node : ℕ) → list.before ≡ Some node → HoldsLock env mix c front bucket.place bucket.word
 
         front_left : LeftInFront
@@ -198,6 +198,7 @@ module _ (env : Env) (mix : ℕ → ℕ → ℕ → ℕ) (c : ℕ) (port owner :
                     slots = k.only.slots;
                     pages_in = k.only.pages_in;
                     works = k.only.works;
+                    reads = k.only.reads;
                   });
               locks =
                   front_locks env mix c port bucket.place bucket.word list.first n list.before
@@ -229,7 +230,7 @@ module _ (env : Env) (mix : ℕ → ℕ → ℕ → ℕ) (c : ℕ) (port owner :
             let is = k.means.bucket in
             let rest = list.first ∷ is.behind in
             let back = place_at-index env mix bucket.place is.found.standing.lock.bucket in
-            let is_there = at-there env mix whole.tables list.claimed.table k.means.table.passing.at in
+            let is_there = at-there k.means.table.passing.at in
             let made =
             front_made env mix c port bucket.place bucket.word list.first n list.before M stored G whole is
             listed k.means.node.key k.means.node.list (idle_moves_none env mix M G whole c k.only)

@@ -36,7 +36,7 @@ use Rattle.rht_bind.specs.declared.bind.growth.Refusal.{Refusal}
 use Rattle.rht_bind.specs.declared.bind.growth.Refusal.TheVariants as refusals
 use Rattle.rht_bind.specs.declared.bind.BindAt.{BindAt}
 use Rattle.rht_bind.specs.declared.bind.BindAt.TheVariants as at
-use Rattle.rht_ghost.proofs.Theory.Ghosts.{put_in, put_in-all, PageOf, PageHeld, SlotHeld, Live, is_page_for, made_table, put, put-all, Ghost}
+use Rattle.rht_ghost.proofs.Theory.Ghosts.{put_in, put_in-all, PageOf, PageHeld, slot_holder, Live, is_page_for, made_table, put, put-all, Ghost}
 use Rattle.rht_ghost.proofs.Theory.Wholes.{Whole, IsAt, at-there}
 use Rattle.rht_ghost.proofs.Theory.Knowns.{Nowhere, Unlocked, MakesNothing, HasMade}
 use Rattle.rht_ghost.proofs.Theory.Knowledge.{plainly, Knowing}
@@ -44,7 +44,7 @@ use Rattle.rht_ghost.proofs.Theory.Answering.{Tells, keeps}
 use Rattle.rht_ghost.proofs.Theory.Steps.{answered-map, Attaches, Holding, by_test, mem, owners, SilentStep, still_has, answered, reads, silent}
 use Rattle.rht_ghost.proofs.Theory.Readiness.{IsAttaching}
 use Rattle.rht_ghost.proofs.Theory.TableFrames.{Knowing-retabled}
-use Rattle.rht_ghost.proofs.Moves.Slots.{slot_word-apart}
+use Rattle.rht_ghost.proofs.Moves.Slots.{table_word-apart}
 use Rattle.rht_ghost.proofs.Moves.Attaching.{is_page-for, attach, attached_kept}
 use Rattle.rht_ghost.proofs.Pieces.Holdings.{holding, knowing}
 use Rattle.rht_ghost.proofs.Pieces.Makes.{known_made, slot_made, made_with, make_step, known_given, slot_given, pages_given, unmake_step}
@@ -249,7 +249,7 @@ module _ (env : Env) (mix : ℕ → ℕ → ℕ → ℕ) (c : ℕ) (port owner :
     found = M (Slot growing.table FutureWord)
 
     abbrev at_last : IsAt G growing.table
-    at_last = known.knowing.means.table
+    at_last = known.knowing.means.table.at
 
     abbrev τ : ℕ
     τ = at_last.table
@@ -275,7 +275,7 @@ module _ (env : Env) (mix : ℕ → ℕ → ℕ → ℕ) (c : ℕ) (port owner :
         → BindMoved (at.Attaching growing slot shape)
         (behind_attempt (has_attached growing.attempt) (ended_attempt once slot), Go)
     won none =
-        let is_there = at-there env mix whole.tables growing.table at_last in
+        let is_there = at-there at_last in
         let made_is = known.knowing.means.making in
         let M' = mem env mix (applied words op) in
         let ready : IsAttaching env mix c slot shape seed serial M G = record { made = made_is; seed_is = refl; serial_is = refl } in
@@ -313,9 +313,9 @@ module _ (env : Env) (mix : ℕ → ℕ → ℕ → ℕ) (c : ℕ) (port owner :
         (G.attached + 1) (put G.slot slot (Live G.attached))
         (put_in (is_page_for shape) (PageOf G.attached) G.page) whole kept
         (Slot (G.table τ).slot FutureWord) (future_of slot) write
-        (slot_word-apart G (G.table τ).slot FutureWord) c
+        (table_word-apart G (G.table τ).slot FutureWord tt) c
         has_table_made (known_of_bind port owner (at.Attaching growing slot shape)) None [] MakesNothing k
-        (put-all (λ s o. o ≡ SlotHeld c → ◌≡◌ {A = Option ℕ} None (Some s)) G.slot slot (Live G.attached)
+        (put-all (λ s o. slot_holder o ≡ Some c → ◌≡◌ {A = Option ℕ} None (Some s)) G.slot slot (Live G.attached)
         (λ e. absurd (cc)) (λ s ne held. let same = k.only.slots s held in absurd (ne (cc))))
         (λ p. put_in-all (λ q o. o ≡ PageHeld c → In q []) (is_page_for shape) (PageOf G.attached) G.page
         (λ q there e. absurd (cc))
@@ -347,6 +347,7 @@ module _ (env : Env) (mix : ℕ → ℕ → ℕ → ℕ) (c : ℕ) (port owner :
               slots = k.only.slots;
               pages_in = λ p held. subst (In p) (sym pages) (k.only.pages_in p held);
               works = k.only.works;
+              reads = k.only.reads;
             };
             means = record {
               node = k.means.node;

@@ -150,8 +150,8 @@ module _ (env : Env) (mix : ℕ → ℕ → ℕ → ℕ) (c : ℕ) (port owner :
 
     -- nothing is held any more
     nothing_left : (n j place : ℕ) → place_at env mix j ≡ place
-        → HasOnly env mix c G (Some n) (Some place) None true None [] false
-        → HasOnly env mix c (ghost_after env mix c (Links n port j) G) None None None false None [] false
+        → HasOnly env mix c G (Some n) (Some place) None true None [] false true
+        → HasOnly env mix c (ghost_after env mix c (Links n port j) G) None None None false None [] false true
     nothing_left n j place is only = record {
       nodes =
           put-all (λ m o. o ≡ NodeHeld c → ◌≡◌ {A = Option ℕ} None (Some m)) G.node n (First j)
@@ -171,6 +171,7 @@ module _ (env : Env) (mix : ℕ → ℕ → ℕ → ℕ) (c : ℕ) (port owner :
       slots = only.slots;
       pages_in = only.pages_in;
       works = only.works;
+      reads = only.reads;
     }
 
     publish_at : (n table place word : ℕ) (kick : Bool)

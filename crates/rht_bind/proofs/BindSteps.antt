@@ -56,17 +56,17 @@ module _ (env : Env) (mix : ℕ → ℕ → ℕ → ℕ) (c : ℕ) (port owner :
   closing (endings.Bound kick) known =
       let told = Some (plain (Bound kick)) in
       answered env mix told (inl (keeps told)) (still_has refl)
-      (close_step env mix c (holds_section told) known_nothing words G all whole low known.knowing)
+      (close_step env mix c (holds_section told) known_nothing refl words G all whole low refl refl known.knowing)
   closing (endings.Answered node reply) known =
       let told = Some (plain reply) in
       answered-map env mix told (inl (keeps told)) (still_has refl)
       (λ M' G' w k. record { knowing = k; fits = tt })
-      (close_step env mix c (record (holds_section told) { node = Some node }) (has_own node) words G all whole low
+      (close_step env mix c (record (holds_section told) { node = Some node }) (has_own node) refl words G all whole low refl refl
       known.knowing)
   closing (endings.Anew attempt) known =
       answered-map env mix None (inl refl) (still_has refl)
       (λ M' G' w k. record { knowing = k; fits = tt })
-      (close_step env mix c (holds_node (Some attempt.node) None) (has_own attempt.node) words G all whole low
+      (close_step env mix c (holds_node (Some attempt.node) None) (has_own attempt.node) refl words G all whole low refl refl
       known.knowing)
 
   -- each operation leads from what the bind knows to what it knows next
@@ -76,7 +76,7 @@ module _ (env : Env) (mix : ℕ → ℕ → ℕ → ℕ) (c : ℕ) (port owner :
   bind_step (at.Opening attempt) is known =
       answered-map env mix None (inl refl) (still_has refl)
       (λ M' G' w k. record { knowing = k; fits = tt })
-      (open_step env mix c (holds_outside (Some attempt.node)) (has_own attempt.node) words G all whole low
+      (open_step env mix c (holds_outside (Some attempt.node)) (has_own attempt.node) refl words G all whole low
       known.knowing)
   bind_step (at.CurrentTable attempt) is known =
       beginning env mix c port owner once words G all whole attempt is known

@@ -46,7 +46,7 @@ use Rattle.rht_ghost.proofs.Pieces.NewNodes as nodes
 use Rattle.rht_ghost.proofs.Pieces.RunPages.{first_run-none}
 use Rattle.rht_ghost.proofs.Pieces.Holdings.{holding, knowing}
 use Rattle.rht_ghost.proofs.Pieces.Locates.{first_passed, locate_step, LocateKnows, LocatedKnows}
-use Rattle.rht_ghost.proofs.Pieces.OpenEntries.{known_entered, known_growing, open_on_way, entered_on_way}
+use Rattle.rht_ghost.proofs.Pieces.OpenEntries.{known_entered, known_growing, open_on_way, since_on_way, entered_on_way}
 use Rattle.rht_ghost.proofs.Pieces.Grows.{pages_grown, known_grown, table_of_grow, table_grown, grow_step}
 use Rattle.rht_ghost.proofs.Pieces.Probes.{known_found, probed_by, ProbeKnows, probe_step}
 use Rattle.rht_bind.proofs.BindKnowledge.{own, knows_of, at_home}
@@ -182,7 +182,7 @@ module _ (env : Env) (mix : ℕ → ℕ → ℕ → ℕ) (c : ℕ) (port owner :
         knowing =
             plainly env mix known.knowing.only known.knowing.means.node
             (first_passed env mix c (holds_node (Some attempt.node) None)
-            (Some (own port owner attempt.node)) Unlocked words G whole port) tt;
+            (Some (own port owner attempt.node)) Unlocked words G whole known.knowing.only.reads port) tt;
         fits = tt;
       })
 
@@ -254,7 +254,7 @@ module _ (env : Env) (mix : ℕ → ℕ → ℕ → ℕ) (c : ℕ) (port owner :
           means = record {
             node = k.means.node;
             table =
-                subst (TableMeans env mix G') (same_growing attempt table shape place state)
+                subst (TableMeans env mix c G') (same_growing attempt table shape place state)
                 k.means.table;
             bucket = tt;
             making = k.means.making;
@@ -285,7 +285,7 @@ module _ (env : Env) (mix : ℕ → ℕ → ℕ → ℕ) (c : ℕ) (port owner :
       (grow_step env mix c (holds_node (Some attempt.node) None)
       (on_way attempt table shape place) (OnWay port table shape place None)
       (behind_entry_of table shape place) words G all whole place.entry
-      (open_on_way env mix M G whole port table shape place)
+      (open_on_way env mix M G whole port table shape place) (since_on_way env mix M G whole port table shape place)
       (λ M' G' page whole' on leads. entered_on_way env mix M' G' whole' port table shape place on
       is.place_in.geometry_same page leads)
       grow is.grow_in
@@ -295,7 +295,7 @@ module _ (env : Env) (mix : ℕ → ℕ → ℕ → ℕ) (c : ℕ) (port owner :
         means = record {
           node = known.knowing.means.node;
           table =
-              subst (TableMeans env mix G) (sym (same_growing attempt table shape place grow.at))
+              subst (TableMeans env mix c G) (sym (same_growing attempt table shape place grow.at))
               known.knowing.means.table;
           bucket = tt;
           making = known.knowing.means.making;

@@ -17,6 +17,7 @@ use std::thread::Threads;
 mod claims;
 mod growth;
 mod hostile;
+mod moves;
 mod walks;
 
 const USAGE: &str = "rht: usage: rht run | rht replay | rht gen NUMBER | rht check\n";

@@ -33,6 +33,8 @@ pub mod RestingBuckets
 pub mod PlacedNodes
 -- and each table has its pages for itself
 pub mod OwnPages
+-- and free pages are blank
+pub mod FreePages
 -- a table whose ports all lie in one bucket is refused, and two that have one page
 pub mod WorkedPlaces
 -- the count of ports, and a table that nobody uses

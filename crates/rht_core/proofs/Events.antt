@@ -26,14 +26,16 @@ pub mod OwnBatches
 pub mod Invariants
 -- a page that a job may miss stays once it is there
 pub mod PagesThere
--- a bucket that a table has stays where it is
-pub mod BucketsThere
 -- the invariant holds in every run
 pub mod InvariantRuns
--- a slot that has a table has one for the rest of a run
-pub mod TablesThere
 -- what each event keeps of callers and of the ghost
 pub mod KeptAtEvents
+-- where a section word stays, so do the tables to which the section comes
+pub mod UnturnedSections
+-- a bucket of such a table stays where it is
+pub mod BucketsThere
+-- and a slot has that table still
+pub mod TablesThere
 -- in every run each caller works at the call of its book, and its calls took out and gave back as many nodes as that says
 pub mod BooksInRuns
 -- the node that a call has taken out of a port's list, by its state

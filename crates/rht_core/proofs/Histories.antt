@@ -30,6 +30,8 @@ pub mod WorkedFits
 pub mod NeverRefused
 -- a resizing that was alone and answers that it moved made another table the current one
 pub mod LoneResizings
+-- in every run a work gives each retired table back to which no other caller's section comes
+pub mod ReturnedTables
 -- a resizing that was alone and found nothing due leaves nothing due
 pub mod SettledTables
 -- where all binds of a run are of some ports, no other port is ever bound

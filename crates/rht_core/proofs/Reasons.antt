@@ -1,5 +1,7 @@
 -- which operations load the key of no node
 pub mod KeyLoads
+-- operations among which no section was opened or closed
+pub mod QuietSteps
 -- the last table that a call walked is the one whose shape it loaded last
 pub mod TablesWalked
 -- the number of a port's bucket, by the words
@@ -50,6 +52,14 @@ pub mod ReleaseKicks
 pub mod MadeSizes
 -- which table is the last one, and that it stays so
 pub mod LastTables
+-- what a machine that has not ended has done is the first part of what it does
+pub mod PartsOfRuns
+-- what a giving back of retired tables has done, once it has ended
+pub mod ReturnsSeen
+-- and what it has done with the slot at which it is
+pub mod ReturnsSoFar
+-- what one has done that keeps section words
+pub mod WordsKept
 -- by which loads a resizing chose what is due
 pub mod ChoicesMade
 -- what it has seen, in each of its states and for its reply
@@ -87,10 +97,16 @@ pub mod OwnTables
 pub mod TablesLeft
 -- a resizing has taken the pages that it has
 pub mod WorksPages
+-- which entries lead to no page, and which are cleared
+pub mod EntriesCleared
+-- what is changed of a slot by whom its table is given back
+pub mod SlotsFreed
 -- what is kept of each operation that changes one of these words, or enters a page
 pub mod ChangesSeen
 -- a slot to which a call has come had a table
 pub mod TablesCome
+-- who retires a table keeps all section words then
+pub mod RetiredKept
 -- so in every run tables are attached when, by whom and of which size they are to be
 pub mod AttachedInRuns
 -- and what attaches one wrongly
@@ -99,3 +115,9 @@ pub mod WorkedAttachings
 pub mod WorkedAttempts
 -- a bind that raises the count though there is no room is refused
 pub mod WorkedRooms
+-- where a resizing stands: before, while or after it gives tables back
+pub mod WorkPhases
+-- while a caller does the work nobody else changes the state of a slot whose table is retired
+pub mod RetiredStay
+-- what becomes of such a slot while retired tables are given back
+pub mod ReturnedSlots

@@ -1,5 +1,7 @@
 -- a run with its traces, event by event
 pub mod TracedRuns
+-- where none of a call's operations turns its caller's section word
+pub mod UnturnedSteps
 -- what each caller keeps of itself and of its trace holds in every run
 pub mod TracedCallers
 -- what jobs keep of their calls' operations holds of each call in every run

@@ -1,5 +1,9 @@
+-- what an operation leaves of a retired table to which nobody comes
+pub mod TablesLeftAlone
 -- which bits operations turn, and which ones a call has turned by what it holds
 pub mod TurnedBits
+-- which ones a resizing has turned in giving retired tables back
+pub mod GivenBack
 -- what the words say of an entry behind which a page is entered
 pub mod EnteredWords
 -- what a call has undone so far of what it turned
@@ -16,6 +20,20 @@ pub mod UndoneTables
 pub mod UndoneMoves
 -- the states behind which no refusal comes, nor another reply that says that nothing was changed
 pub mod PastRefusal
+-- whether a resizing still gives retired tables back
+pub mod WorkStages
+-- what it knows of a table by the words as they were when it loaded the shape
+pub mod TablesThen
+-- and that this stays so
+pub mod TablesTakenDown
+-- in every run
+pub mod GivingInRuns
+-- what each operation gives back
+pub mod PagesReturned
+-- and what it has turned so far
+pub mod ReturnedBits
+-- which nobody else does
+pub mod ReturningAlone
 -- which shape a bind has stored for the table that it attaches
 pub mod StoredShapes
 -- what a job holds and does that may still be refused, or end without a change

@@ -1,20 +1,23 @@
--- When a table is attached, by whom, and of which size.
--- What the words of a slot say of its table is changed by the caller alone that has taken the slot for a new table. Of a table in force it
--- stays as it is, but for its future. That becomes another one only by the exchange that attaches the next table. A bind does that which
--- saw the table full, or a resizing that chose one. The current table becomes another one only by a resizing, which goes on to the next.
--- Where an entry of a nested table leads to no page, a bind alone enters one, on the way to its own port's bucket. It is so in a table in force,
--- and in each to which the call has come. A slot is taken by whoever makes a table, given back by who took it, and retired by a resizing. And
--- the work lock is taken by a resizing, and given back by the one that took it. Under it tables become current and are retired.
+-- When a table is attached, by whom, and of which size. What the words of a slot say of its table is changed by the caller alone
+-- that has taken the slot for a new table. Of a table in force it stays as it is, but for its future. That becomes another one
+-- only by the exchange that attaches the next table. A bind does that which saw the table full, or a resizing that chose one. The
+-- current table becomes another one only by a resizing, which goes on to the next. Where an entry of a nested table leads to no
+-- page, a bind alone enters one, on the way to its own port's bucket. It is so in a table in force, and in each to which the call
+-- has come. Where an entry leads to a page, it leads there as long as somebody may come to it. A slot is taken by whoever makes a
+-- table, given back by who took it, and retired by a resizing. One that is retired is given back by a resizing, once it has found
+-- each caller to have left. By the words that are kept in a slot it finds this, and who retires a table keeps them. And the work
+-- lock is taken by a resizing, and given back by the one that took it. Under it tables become current, are retired and are given
+-- back.
 use Rattle.std.specs.Prelude.{◌≡◌, ◌≢◌, ℕ, ◌*◌, ◌<◌, ◌⊎◌, ◌≤◌, true, false, Some, List, [], ◌∷◌, ◌++◌, IfSome, map}
 use Rattle.std.specs.List.{AllByRecursion, Any}
 use Rattle.rht_words.specs.declared.op.Op.TheVariants.{Load, Store}
 use Rattle.rht_words.specs.declared.env.Env.{Env}
 use Rattle.rht_words.specs.declared.geometry.Geometry.{Geometry}
-use Rattle.rht_words.specs.Links.{table_of, slot_of}
+use Rattle.rht_words.specs.Links.{table_of, slot_of, page_of}
 use Rattle.rht_words.specs.Machines.{Performed}
 use Rattle.rht_words.specs.Members.{In}
 use Rattle.rht_words.specs.Operations.{op_place, word_after}
-use Rattle.rht_words.specs.Places.{SlotWord, CurrentTable, WorkLock, PortCount, Slot, ShapeWord, FutureWord, SeedWord, SerialWord, StateWord, PageWord, place_of, word_at}
+use Rattle.rht_words.specs.Places.{SlotWord, CurrentTable, WorkLock, PortCount, Section, Slot, ShapeWord, FutureWord, SeedWord, SerialWord, StateWord, LoadedSection, PageWord, place_of, word_at}
 use Rattle.rht_words.specs.Shapes.{unpacked, size_of}
 use Rattle.rht_words.specs.TableWords.{IsTableWord}
 use Rattle.rht_policy.specs.Mix.{bucket_of}
@@ -22,18 +25,22 @@ use Rattle.rht_policy.specs.Thresholds.{is_above_75}
 use Rattle.rht_nest.specs.MakeLaws.{TakesSlot, TakesSerial}
 use Rattle.rht_nest.specs.Place.{nested_place, missing_at}
 use Rattle.rht_nest.specs.Tables.{is_nested, pages_of_shape}
-use Rattle.rht_stands.specs.StandsFor.{tables_from, in_force, page_word}
+use Rattle.rht_reclaim.specs.KeepLaws.{SectionsKept}
+use Rattle.rht_reclaim.specs.ReturnLaws as returns
+use Rattle.rht_stands.specs.StandsFor.{tables_from, in_force, page_word, shape_of}
 use Rattle.rht_model.specs.declared.history.Call.{Call}
 use Rattle.rht_model.specs.declared.history.Call.TheVariants.{Bind, Work}
 use Rattle.rht_move.specs.declared.work.choice.Choice.TheVariants as choices
 use Rattle.rht_core.specs.declared.event.Event.{Event}
 use Rattle.rht_core.specs.Runs.{IsAdmitted}
-use Rattle.rht_core.specs.Traces.{Did, Traced, performed_of, traced_of}
-use Rattle.rht_core.specs.Seen.{LoadsCurrent, CameTo, LastWalked, words_before}
+use Rattle.rht_core.specs.Traces.{Did, Past, Traced, performed_of, traced_of}
+use Rattle.rht_core.specs.Seen.{LoadsWord, LoadsCurrent, TurnsNoSection, CameTo, LastWalked, words_before}
 use Rattle.rht_core.specs.ResizeCauses.{Loaded, Attaches, WalkedFull, wanted_size, AreRunsTaken}
 use Rattle.rht_core.specs.Due.{pages_due}
 use Rattle.rht_core.specs.WorkCauses.{TakesWorkLock, HasChosen, StoresCurrent}
 use Rattle.rht_core.specs.Refused.{StoresLast, IsWaysEnd, PutsPage, HasTaken}
+use Rattle.rht_core.specs.Returned.{ReturnsSlot}
+use Rattle.rht_core.specs.TablePages.{IsEntryOfTable}
 
 -- the operation changes one of the words that say something of the table in this slot
 pub record ChangesTable (g : Geometry) (slot : ℕ) (did : Did) : Type 0 where
@@ -74,14 +81,68 @@ pub record HasGoneOn (g : Geometry) (slot : ℕ) (steps : List Did) : Type 0 whe
   pub from : table_of at.old ≡ slot
   pub other : next ≢ slot
 
+-- the operation says in this slot that its table is retired
+abbrev pub StoresRetired : Geometry → ℕ → Did → Type 0
+StoresRetired g slot did = did.op ≡ Store (place_of g (Slot slot StateWord)) 2
+
+-- and it wasn't before
+pub record RetiresSlot (g : Geometry) (slot : ℕ) (did : Did) : Type 0 where
+  pub stores : StoresRetired g slot did
+  pub other : did.old ≢ 2
+
 -- The operation retires the table of this slot, from which the call has gone on, under the work lock. By the words before it isn't in force,
 -- and futures lead from it to the current one.
 pub record RetiresTable (g : Geometry) (words : List ℕ) (slot : ℕ) (before : List Did) (did : Did) : Type 0 where
   pub lock : HasWorkLock g before
   pub gone_on : HasGoneOn g slot before
-  pub stores : did.op ≡ Store (place_of g (Slot slot StateWord)) 2
+  pub stores : StoresRetired g slot did
   pub apart : ¬ In slot (in_force g words)
   pub left : In (table_of (word_at g words CurrentTable)) (tables_from g words 8 (Some slot))
+
+-- The operation changes the word that is kept in this slot of a caller's section.
+pub record ChangesKept (g : Geometry) (slot caller : ℕ) (did : Did) : Type 0 where
+  pub slot_in : slot < 8
+  pub caller_in : caller < 16
+  pub there : op_place did.op ≡ place_of g (Slot slot (LoadedSection caller))
+  pub other : word_after did.old did.op ≢ did.old
+
+-- The operation keeps the section word of this caller in the slot of a table that the call has retired, under the work lock:
+-- behind the retiring, and just before this operation, the call has loaded that very word.
+pub record KeepsWordOf (g : Geometry) (slot caller : ℕ) (before : List Did) (did : Did) : Type 0 where
+  pub lock : HasWorkLock g before
+  pub sooner : List Did
+  pub at : Did
+  pub since : List Did
+  pub load : Did
+  pub split : before ≡ sooner ++ at ∷ (since ++ load ∷ [])
+  pub retires : StoresRetired g slot at
+  pub loads : LoadsWord g (Section caller) load
+  pub stores : did.op ≡ Store (place_of g (Slot slot (LoadedSection caller))) load.old
+
+-- The operation gives back the slot of a retired table, under the work lock. The call had loaded the slot's state, found that the
+-- table is retired, and done nothing else since than to find of each caller, in order, that it has left, and then to give back
+-- the table's pages (`SlotReturned`).
+pub record ReturnsRetired (g : Geometry) (slot : ℕ) (before : List Did) (did : Did) : Type 0 where
+  pub lock : HasWorkLock g before
+  pub frees : ReturnsSlot g slot did
+  pub sooner : List Did
+  pub state : Did
+  pub since : List Did
+  pub split : before ≡ sooner ++ state ∷ since
+  pub found : Loaded g (Slot slot StateWord) 2 state
+  pub given : returns.SlotReturned g slot (map performed_of (since ++ did ∷ []))
+
+-- Behind its retiring of the table in this slot the call kept the section words of all callers there, in order, and gave the work
+-- lock back. It did nothing else then.
+pub record HasKeptSections (g : Geometry) (slot : ℕ) (steps : List Did) : Type 0 where
+  pub before : List Did
+  pub at : Did
+  pub keeping : List Did
+  pub last : Did
+  pub split : steps ≡ before ++ at ∷ (keeping ++ last ∷ [])
+  pub retires : StoresRetired g slot at
+  pub kept : SectionsKept g slot (map performed_of keeping)
+  pub gives : last.op ≡ Store (place_of g WorkLock) 0
 
 -- only binds and resizings make tables
 abbrev pub MakesTables : Call → Type 0
@@ -105,6 +166,19 @@ pub record MovesOn (g : Geometry) (words : List ℕ) (did : Did) : Type 0 where
 abbrev pub WorkLockCause : Geometry → Call → List Did → Did → Type 0
 WorkLockCause g call before did =
     (call ≡ Work) × (TakesWorkLock g did ⊎ (HasWorkLock g before × (did.op ≡ Store (place_of g WorkLock) 0)))
+
+-- The operation changes this entry, which by the words before is one of a nested table and leads to a page. That table is in
+-- force by these words; or the call's operations before had come to it.
+pub record ChangesLeading (g : Geometry) (words : List ℕ) (before : List Did) (index : ℕ) (did : Did) : Type 0 where
+  pub index_in : index < 64 * g.pages
+  pub table : ℕ
+  pub table_in : table < 8
+  pub stands : In table (in_force g words) ⊎ CameTo g table before
+  pub entry : IsEntryOfTable g words (shape_of g words table) index
+  pub page : ℕ
+  pub leads : page_of g.pages (word_at g words (PageWord index)) ≡ Some page
+  pub there : op_place did.op ≡ place_of g (PageWord index)
+  pub other : word_after did.old did.op ≢ did.old
 
 -- The operation changes this entry, which by the words before is a way's end of a table, and so leads to no page. That table is in force by
 -- these words; or the call's operations before had come to it, whether it has been left behind since or not.
@@ -154,12 +228,14 @@ pub record SawNoRun (g : Geometry) (pages : ℕ) (steps : List Performed) : Type
   pub are : steps ≡ first ++ behind
   pub runs : AreRunsTaken g pages 0 [] first
 
--- A resizing of this caller attaches a table behind this one. It had chosen that one of this size is due behind this one, which was the last.
--- Behind that it stored this shape in the slot last, that of a flat table of this size, and a serial that it had drawn.
+-- A resizing of this caller attaches a table behind this one. It had chosen that one of this size is due behind this one, which
+-- was the last. Behind that, in the same section, it stored this shape in the slot last, that of a flat table of this size, and a
+-- serial that it had drawn.
 pub record AttachesDue (env : Env) (c table slot shape : ℕ) (before : List Did) : Type 0 where
   pub size : ℕ
   pub chose : HasChosen env c (choices.Attach size) before
   pub last : chose.last ≡ table
+  pub inside : AllByRecursion (TurnsNoSection env.geometry) chose.behind
   pub stored : StoresLast env.geometry slot shape chose.behind
   pub numbered : StoresDrawn env.geometry slot chose.behind
   pub sized : size_of (unpacked shape) ≡ size
@@ -167,8 +243,9 @@ pub record AttachesDue (env : Env) (c table slot shape : ℕ) (before : List Did
 
 -- where these are the words before the event with each number
 module _ (g : Geometry) (words_at : ℕ → List ℕ) (mix : ℕ → ℕ → ℕ → ℕ) where
-  -- A bind of this port enters a page at this entry, which it had taken. It had walked a table last, and by the words before, the way to the
-  -- port's bucket in that table ends there. The bucket's number is by the table's seed as it then is.
+  -- A bind of this port enters a page at this entry, which it had taken. It had walked a table last, in the section in which it
+  -- is still, and by the words before, the way to the port's bucket in that table ends there. The bucket's number is by the
+  -- table's seed as it then is.
   pub record EntersOnWay (port entry : ℕ) (before : List Did) (did : Did) : Type 0 where
     pub page : ℕ
     pub enters : PutsPage g entry page did
@@ -176,6 +253,7 @@ module _ (g : Geometry) (words_at : ℕ → List ℕ) (mix : ℕ → ℕ → ℕ
     pub table : ℕ
     pub shape : ℕ
     pub walked : LastWalked g table shape before
+    pub inside : AllByRecursion (TurnsNoSection g) walked.behind
     pub bucket : ℕ
     pub bucket_is : bucket ≡ bucket_of mix port shape (word_at g (words_at did.index) (Slot table SeedWord))
     pub within : bucket < size_of (unpacked shape)
@@ -237,17 +315,20 @@ module _ (M : Type 0) (mix : ℕ → ℕ → ℕ → ℕ) (env : Env) (events : 
     pub cause : AttachCause call table slot shape before did
 
   -- A bind or a resizing takes the slot, which was free; or the call gives back its own; or a resizing retires the slot's
-  -- table, from which it has gone on.
+  -- table, from which it has gone on; or it gives back the slot of one that was retired, over which no section is open any more.
   abbrev pub StateCause : Call → ℕ → List Did → Did → Type 0
   StateCause call slot before did =
       (MakesTables call × TakesSlot env.geometry slot (performed_of did))
       ⊎ (IsOwnTable slot before did × (did.op ≡ Store (place_of env.geometry (Slot slot StateWord)) 0))
       ⊎ ((call ≡ Work) × RetiresTable env.geometry (words_before M mix env events did.index) slot before did)
+      ⊎ ((call ≡ Work) × ReturnsRetired env.geometry slot before did)
 
-  -- Where the operation changes what a slot's words say of a table, that is the call's own, or it attaches another one behind it. And where it
-  -- changes which table is the current one, the call is a resizing, and goes on to the next table. Where it changes an entry that leads to no
-  -- page, the call is a bind, and enters a page there. Where it changes whether a slot is free there is a cause for that. And where it changes
-  -- the work lock, the call is a resizing, which takes it or gives it back.
+  -- Where the operation changes what a slot's words say of a table, that is the call's own, or it attaches another one behind it.
+  -- And where it changes which table is the current one, the call is a resizing, and goes on to the next table. Where it changes
+  -- an entry that leads to no page, the call is a bind, and enters a page there. It changes none that leads to a page. Where it
+  -- changes whether a slot is free there is a cause for that. Where it changes what is kept in a slot of a section, the call is a
+  -- resizing, which keeps that section's word. And where it changes the work lock, the call is a resizing, which takes it or
+  -- gives it back.
   pub record ChangesRightly (call : Call) (before : List Did) (did : Did) : Type 0 where
     pub tables : (slot : ℕ) → ChangesTable env.geometry slot did → IsOwnTable slot before did ⊎ AttachesRightly call slot before did
     pub current :
@@ -257,6 +338,9 @@ module _ (M : Type 0) (mix : ℕ → ℕ → ℕ → ℕ) (env : Env) (events : 
     pub entries :
         (entry : ℕ) → ChangesMissing env.geometry (words_before M mix env events did.index) before entry did
         → EnterCause env.geometry (words_before M mix env events) mix call entry before did
+    pub leading : (index : ℕ) → ¬ ChangesLeading env.geometry (words_before M mix env events did.index) before index did
+    pub kept : (slot caller : ℕ) → ChangesKept env.geometry slot caller did
+        → (call ≡ Work) × KeepsWordOf env.geometry slot caller before did
     pub work : ChangesWorkLock env.geometry did → WorkLockCause env.geometry call before did
 
   -- so do all calls of the caller, those that have ended and the one in progress
@@ -269,3 +353,13 @@ abbrev pub Attached : (M : Type 0) → (ℕ → ℕ → ℕ → ℕ) → Type 0
 Attached M mix =
     (env : Env) (events : List Event) (c : ℕ) → IsAdmitted env.config.kind events
     → HasAttachedRightly M mix env events c (traced_of mix env events)
+
+-- the call has kept section words wherever it retired a table
+abbrev pub KeepsWhereRetired : Geometry → Past → Type 0
+KeepsWhereRetired g past = (slot : ℕ) → slot < 8 → Any (RetiresSlot g slot) past.steps → HasKeptSections g slot past.steps
+
+-- in every run each call that has ended has done so
+abbrev pub KeepsAtRetiring : (M : Type 0) → (ℕ → ℕ → ℕ → ℕ) → Type 0
+KeepsAtRetiring M mix =
+    (env : Env) (events : List Event) (c : ℕ) → IsAdmitted env.config.kind events
+    → AllByRecursion (KeepsWhereRetired env.geometry) ((traced_of {M = M} mix env events).traces c).past

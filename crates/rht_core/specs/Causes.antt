@@ -21,7 +21,7 @@ use Rattle.rht_core.specs.declared.event.Event.{Event}
 use Rattle.rht_core.specs.Runs.{IsAdmitted}
 use Rattle.rht_core.specs.Traces.{Did, Past, performed_of, traced_of}
 use Rattle.rht_core.specs.Due.{is_due_to_shrink}
-use Rattle.rht_core.specs.Seen.{LastWalked, CountedAt, SawCount, words_before}
+use Rattle.rht_core.specs.Seen.{TurnsNoSection, LastWalked, CountedAt, SawCount, words_before}
 use Rattle.rht_core.specs.ResizeCauses.{IsUnboundAt, AttachesSome, HasFollowed, SawBusy, SawNoTable, SawNoPage}
 pub use Rattle.rht_core.specs.RoomCauses.{IsRaise}
 use Rattle.rht_core.specs.RoomCauses.{HadRoom}
@@ -117,8 +117,8 @@ module _ (M : Type 0) (mix : ℕ → ℕ → ℕ → ℕ) where
     pub full : most_ports env.config.max ≤ count
     pub counted : CountedAt M mix env events c count did
 
-  -- A bind of this port is refused since there are too many ports: behind the load of the shape of the last table that it walked it loaded
-  -- this count, while the port had no owner.
+  -- A bind of this port is refused since there are too many ports: behind the load of the shape of the last table that it walked,
+  -- in the same section, it loaded this count, while the port had no owner.
   pub record SawTooBig (env : Env) (events : List Event) (c port count : ℕ) (steps : List Did) : Type 0 where
     pub table : ℕ
     pub shape : ℕ
@@ -127,6 +127,7 @@ module _ (M : Type 0) (mix : ℕ → ℕ → ℕ → ℕ) where
     pub at : Did
     pub rest : List Did
     pub split : walked.behind ≡ before ++ at ∷ rest
+    pub inside : AllByRecursion (TurnsNoSection env.geometry) before
     pub unbound : IsUnboundAt env.geometry (words_before M mix env events) port at
     pub full : SawFull env events c count at
 

@@ -1,12 +1,12 @@
 -- What the count of ports counts, and what a table is like while nobody is in a call.
-use Rattle.std.specs.Prelude.{◌≡◌, ◌≢◌, ℕ, ◌+◌, ◌/◌, ◌%◌, ◌<◌, ◌≤◌, ◌⊎◌, Bool, true, Option, Some, List, [], ◌∷◌, ◌++◌, length, slice_index, sum_by, count_by}
+use Rattle.std.specs.Prelude.{◌≡◌, ◌≢◌, ℕ, ◌+◌, ◌*◌, ◌/◌, ◌%◌, ◌<◌, ◌≤◌, ◌⊎◌, Bool, true, Option, Some, List, [], ◌∷◌, ◌++◌, length, slice_index, sum_by, count_by}
 use Rattle.std.specs.List.{AllByRecursion, flat_map, range_with_len}
 use Rattle.std.specs.Int.{bit_at}
 use Rattle.rht_words.specs.declared.env.Env.{Env}
 use Rattle.rht_words.specs.declared.geometry.Geometry.{Geometry}
 use Rattle.rht_words.specs.declared.config.Kind.TheVariants.{Single}
 use Rattle.rht_words.specs.Members.{In, IsDistinct}
-use Rattle.rht_words.specs.Places.{WorkLock, PortCount, Slot, StateWord, NodeMap, PageMap, word_at}
+use Rattle.rht_words.specs.Places.{WorkLock, PortCount, Slot, StateWord, NodeMap, PageMap, PageWord, word_at}
 use Rattle.rht_words.specs.Shapes.{unpacked, size_of}
 use Rattle.rht_model.specs.declared.history.Call.{Call}
 use Rattle.rht_model.specs.declared.history.Call.TheVariants.{Bind, Release}
@@ -86,6 +86,13 @@ module _ (g : Geometry) (words : List ℕ) where
     pub attached : (slot : ℕ) → slot < 8 → word_at g words (Slot slot StateWord) ≢ 0
         → (word_at g words (Slot slot StateWord) ≡ 2) ⊎ In slot (in_force g words)
 
+  -- each word of a free page is 0, and no page is one of the tables in two slots that aren't free
+  pub record ArePagesApart : Type 0 where
+    pub blank : (page index : ℕ) → page < g.pages → index < 64 → IsPageFree page
+        → word_at g words (PageWord (64 * page + index)) ≡ 0
+    pub apart : (one other page : ℕ) → one < 8 → other < 8 → word_at g words (Slot one StateWord) ≢ 0
+        → word_at g words (Slot other StateWord) ≢ 0 → IsPageOfSlot one page → IsPageOfSlot other page → one ≡ other
+
 -- how many of this caller's calls that have ended did so, and of all callers'
 abbrev pub taken_out_by : {M : Type 0} → World M → ℕ → ℕ
 taken_out_by w c = count_by (λ done. takes_out done.reply) (w.books c).finished
@@ -136,10 +143,11 @@ pub record AreBatched {M : Type 0} (env : Env) (core : Core M) : Type 0 where
   pub among : AllByRecursion (λ node. node < env.geometry.nodes) (in_batches env core)
   pub placed : (node : ℕ) → node < env.geometry.nodes → IsPlaced env.geometry core.words (in_batches env core) node
 
--- No bucket of a table in force, or in a slot that isn't free, is locked, and the word of each bucket of a retired one is 0; as many
--- nodes are out as were taken out and not given back, and no others, and they are those in the callers' batches; in a table of one owner each no port's list has a second node; the count of ports is
--- the number of those bound; no caller has the work lock, a slot or pages, or is in a read section; and each table that was left behind
--- is retired
+-- No bucket of a table in force, or in a slot that isn't free, is locked, and the word of each bucket of a retired one is 0; as
+-- many nodes are out as were taken out and not given back, and no others, and they are those in the callers' batches; in a table
+-- of one owner each no port's list has a second node; the count of ports is the number of those bound; no caller has the work
+-- lock, a slot or pages, or is in a read section; each table that was left behind and wasn't given back is retired; free pages
+-- are blank, and no two tables have a page in common
 pub record IsAtRest {M : Type 0} (env : Env) (core : Core M) (taken given : ℕ) : Type 0 where
   pub unlocked : (slot place : ℕ) → HasTable env.geometry core.words slot → IsBucketOfSlot env.geometry core.words slot place
       → slice_index core.words place % 2 ≡ 0
@@ -152,6 +160,7 @@ pub record IsAtRest {M : Type 0} (env : Env) (core : Core M) (taken given : ℕ)
   pub single : env.config.kind ≡ Single → (port : ℕ) → length (nodes_of env.geometry core.words port) ≤ 1
   pub counted : AreAllBound (stands_for env.geometry core.words) (word_at env.geometry core.words PortCount)
   pub none_held : AreNoneHeld env.geometry core.words
+  pub pages : ArePagesApart env.geometry core.words
   pub sections : (c : ℕ) → c < env.geometry.callers → IsInNoSection env.geometry core.words c
 
 module _ (M : Type 0) (mix : ℕ → ℕ → ℕ → ℕ) where

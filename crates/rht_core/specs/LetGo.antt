@@ -12,7 +12,7 @@ use Rattle.rht_core.specs.declared.event.Event.{Event}
 use Rattle.rht_core.specs.Runs.{IsAdmitted}
 use Rattle.rht_core.specs.Traces.{Did, Past, traced_of}
 use Rattle.rht_core.specs.Seen.{words_before}
-use Rattle.rht_core.specs.Refused.{turns, MayAttach, EnteredWhenTaken}
+use Rattle.rht_core.specs.Refused.{turns, IsEvenIn, MayAttach, EnteredWhenTaken}
 
 -- a bind entered a page at this entry, when it had taken the page: by the words before, the entry was one of a nested table and led to none
 pub record HasEnteredAt (g : Geometry) (words_at : ℕ → List ℕ) (call : Call) (steps : List Did) (entry : ℕ) : Type 0 where
@@ -21,13 +21,14 @@ pub record HasEnteredAt (g : Geometry) (words_at : ℕ → List ℕ) (call : Cal
   pub entered : EnteredWhenTaken g words_at entry page steps
 
 module _ (M : Type 0) (mix : ℕ → ℕ → ℕ → ℕ) where
-  -- A caller's call has let go of the work lock, of the lock of each bucket, and of the caller's read section. Where the word of a page is
-  -- an entry its lowest bit is no lock: it is left turned only where the call itself entered a page there.
+  -- A caller's call has let go of the work lock, of the lock of each bucket, and of the caller's read section. Where the word of
+  -- a page is an entry its lowest bit is no lock: it is left turned only where the call itself entered a page there; or by one
+  -- operation with which a resizing cleared the entry of a retired table, all others having turned it an even number of times.
   pub record HasLetGo (env : Env) (events : List Event) (c : ℕ) (past : Past) : Type 0 where
     pub work : turns (place_of env.geometry WorkLock) 0 past.steps % 2 ≡ 0
     pub buckets : (index : ℕ) → index < 64 * env.geometry.pages
         → HasEnteredAt env.geometry (words_before M mix env events) past.done.call past.steps index
-        ⊎ (turns (place_of env.geometry (PageWord index)) 0 past.steps % 2 ≡ 0)
+        ⊎ IsEvenIn env.geometry (words_before M mix env events) past.done.call (place_of env.geometry (PageWord index)) 0 past.steps
     pub section : turns (place_of env.geometry (Section c)) 0 past.steps % 2 ≡ 0
 
   -- in every run each call that has ended has let go of its locks and its section

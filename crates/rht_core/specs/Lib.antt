@@ -38,8 +38,12 @@ pub mod TablePages
 -- where callers stand in their read sections, and what they could reach there
 pub mod Standings
 pub mod Reach
+-- what is so of pages and slots that are free
+pub mod Free
 -- what a call that tidies gives back
 pub mod Tidied
+-- what a call gives back of retired tables
+pub mod Returned
 -- what a full walk shows
 pub mod Shown
 -- who is in no read section

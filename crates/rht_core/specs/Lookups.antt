@@ -6,7 +6,7 @@ use Rattle.rht_words.specs.declared.op.Op.TheVariants.{Load}
 use Rattle.rht_words.specs.declared.env.Env.{Env}
 use Rattle.rht_words.specs.declared.geometry.Geometry.{Geometry}
 use Rattle.rht_words.specs.Operations.{op_place}
-use Rattle.rht_words.specs.Places.{WorkLock, IsBucketPlace, place_of}
+use Rattle.rht_words.specs.Places.{WorkLock, Slot, ShapeWord, IsBucketPlace, place_of}
 use Rattle.rht_model.specs.declared.history.Call.{Call}
 use Rattle.rht_model.specs.declared.history.Call.TheVariants.{Find, Count, Tidy, Walk}
 use Rattle.rht_model.specs.declared.history.Cursor.{Cursor}
@@ -19,7 +19,7 @@ use Rattle.rht_words.specs.Shapes.{unpacked, size_of}
 use Rattle.rht_core.specs.declared.event.Event.{Event}
 use Rattle.rht_core.specs.Runs.{IsAdmitted}
 use Rattle.rht_core.specs.Traces.{Did, Past, Traced, traced_of, behind_call}
-use Rattle.rht_core.specs.Seen.{TurnsSection}
+use Rattle.rht_core.specs.Seen.{LoadsWord, TurnsSection}
 use Rattle.rht_core.specs.RunHistories.{bindings_behind}
 
 -- ---- how many operations
@@ -31,6 +31,16 @@ IsShort env call steps = (port : ℕ) → call ≡ Find port → length steps �
 -- nor a tidying than two for each caller, one for each node, and one
 abbrev pub IsShortTidying : Env → Call → List Did → Type 0
 IsShortTidying env call steps = call ≡ Tidy → length steps ≤ tidy_bound env.geometry
+
+-- at most one of these operations is so
+abbrev pub IsAtMostOne : (Did → Type 0) → List Did → Type 0
+IsAtMostOne Is [] = Unit {0}
+IsAtMostOne Is (did ∷ steps) = (Is did → AllByRecursion (λ other. ¬ Is other) steps) × IsAtMostOne Is steps
+
+-- A look-up loads the shape of each slot at most once: it doesn't meet a slot again, though that may have another table meanwhile.
+abbrev pub MeetsEachOnce : Env → Call → List Did → Type 0
+MeetsEachOnce env call steps =
+    (port slot : ℕ) → call ≡ Find port → slot < 8 → IsAtMostOne (LoadsWord env.geometry (Slot slot ShapeWord)) steps
 
 -- the shape that a walk found: its fourth operation loads it
 abbrev pub shape_found : List Did → ℕ
@@ -96,6 +106,12 @@ module _ (M : Type 0) (mix : ℕ → ℕ → ℕ → ℕ) where
   Bounded =
       (env : Env) (events : List Event) (c : ℕ) → IsAdmitted env.config.kind events
       → EachCall (IsShort env) (traced_of mix env events) c
+
+  -- And none looks at more than the eight slots.
+  abbrev pub MeetsFewTables : Type 0
+  MeetsFewTables =
+      (env : Env) (events : List Event) (c : ℕ) → IsAdmitted env.config.kind events
+      → EachCall (MeetsEachOnce env) (traced_of mix env events) c
 
   -- and no tidying
   abbrev pub TidiesSoon : Type 0

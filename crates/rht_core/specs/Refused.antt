@@ -1,7 +1,8 @@
--- What a call leaves that changes nothing: one that was refused, found its port bound, or found no owner to replace or to release. And
--- what a call leaves that only looks, as a look-up, a listing and a reading of the count, and a resizing that had nothing to do.
--- What a bit is, it is by its value at opening and by the calls that turned it an odd number of times, whatever the order of their
--- operations. To a bit that it turned an even number of times a call has added nothing.
+-- What a call leaves that changes nothing: one that was refused, found its port bound, or found no owner to replace or to
+-- release. And what a call leaves that only looks, as a look-up, a listing and a reading of the count, and a resizing that had
+-- nothing to do but to give back retired tables. What a bit is, it is by its value at opening and by the calls that turned it an
+-- odd number of times, whatever the order of their operations. To a bit that it turned an even number of times a call has added
+-- nothing.
 use Rattle.std.specs.Prelude.{◌≡◌, ◌≢◌, ℕ, ◌+◌, ◌*◌, ◌/◌, ◌%◌, ◌<◌, ◌≤◌, ◌⊎◌, ◌==◌, Bool, true, Some, List, [], ◌∷◌, ◌++◌, if◌then◌else◌}
 use Rattle.std.specs.List.{AllByRecursion, Any}
 use Rattle.std.specs.Int.{bit_at}
@@ -15,7 +16,7 @@ use Rattle.rht_words.specs.Operations.{op_place, word_after}
 use Rattle.rht_words.specs.Places.{NextSerial, Section, Slot, SlotWord, ShapeWord, FutureWord, StateWord, PageMap, PageWord, Node, NodeWord, words_in, place_of}
 use Rattle.rht_words.specs.Shapes.{unpacked, size_of}
 use Rattle.rht_model.specs.declared.history.Call.{Call}
-use Rattle.rht_model.specs.declared.history.Call.TheVariants.{Bind}
+use Rattle.rht_model.specs.declared.history.Call.TheVariants.{Bind, Work}
 use Rattle.rht_model.specs.declared.history.Reply.{Reply}
 use Rattle.rht_model.specs.declared.history.Reply.TheVariants.{Exists, Absent, Found, Missing, Listed, Idle, Walked, Counted}
 use Rattle.rht_model.specs.Answers.{is_refusal}
@@ -30,6 +31,7 @@ use Rattle.rht_core.specs.Sections.{IsInNoSection}
 use Rattle.rht_core.specs.Traces.{Did, Past, performed_of, traced_of, behind_call}
 use Rattle.rht_core.specs.Seen.{CameTo, words_before}
 use Rattle.rht_core.specs.ResizeCauses.{Attaches}
+use Rattle.rht_core.specs.Returned.{IsReturn}
 use Rattle.rht_core.specs.RunHistories.{ChangesBindings}
 pub use Rattle.rht_words.specs.TableWords.{IsTableWord}
 
@@ -204,15 +206,31 @@ IsExcepted g words_at c call steps place bit =
     ⊎ (MayAttach call × (IsOfAttached g steps place bit ⊎ IsOfEntered g words_at steps place bit))
     ⊎ IsOwnSection g c place bit
 
+-- These operations turned the bit an even number of times but for one of them, which gives back what the bit says of a retired
+-- table: its slot's state, an entry of it, or the bit of a page of it.
+pub record IsEvenButReturn (g : Geometry) (words_at : ℕ → List ℕ) (place bit : ℕ) (steps : List Did) : Type 0 where
+  pub before : List Did
+  pub at : Did
+  pub behind : List Did
+  pub split : steps ≡ before ++ at ∷ behind
+  pub returns : IsReturn g words_at place bit before at behind
+  pub even : turns place bit (before ++ behind) % 2 ≡ 0
+
+-- They turned it an even number of times; or they are those of a resizing, and did so but for one that gives back.
+abbrev pub IsEvenIn : Geometry → (ℕ → List ℕ) → Call → ℕ → ℕ → List Did → Type 0
+IsEvenIn g words_at call place bit steps =
+    (turns place bit steps % 2 ≡ 0) ⊎ ((call ≡ Work) × IsEvenButReturn g words_at place bit steps)
+
 module _ (M : Type 0) (mix : ℕ → ℕ → ℕ → ℕ) where
-  -- A caller's call has undone what it did, or did nothing. None of its operations changed what the words stand for, and each bit of each
-  -- word was turned an even number of times, but for those that may be left turned. So the call holds no lock, and gave back the node that
-  -- it took. Behind its last operation the caller is in no read section.
+  -- A caller's call has undone what it did, or did nothing. None of its operations changed what the words stand for, and each bit
+  -- of each word was turned an even number of times, but for those that may be left turned, and for one operation each by which a
+  -- resizing gives back what was a retired table's. So the call holds no lock, and gave back the node that it took. Behind its
+  -- last operation the caller is in no read section.
   pub record IsUndone (env : Env) (events : List Event) (c : ℕ) (past : Past) : Type 0 where
     pub bindings : AllByRecursion (λ did. ¬ ChangesBindings M mix env events did) past.steps
     pub even : (place bit : ℕ) → place < words_in env.geometry → bit < 64
         → IsExcepted env.geometry (words_before M mix env events) c past.done.call past.steps place bit
-        ⊎ (turns place bit past.steps % 2 ≡ 0)
+        ⊎ IsEvenIn env.geometry (words_before M mix env events) past.done.call place bit past.steps
     pub section : IsInNoSection env.geometry (words_before M mix env events (behind_call past)) c
 
   -- in every run each call that has ended, and changes nothing by its reply, has undone what it did

@@ -1,6 +1,6 @@
--- Why a bind that found the last table full, or no page for its bucket, was refused or has to be made again: what its operations show of
--- that.
--- Every address that a row names is one of the table's words, since places alone don't tell it from a word that isn't there.
+-- Why a bind that found the last table full, or no page for its bucket, was refused or has to be made again: what its operations
+-- show of that. Every address that a row names is one of the table's words, since places alone don't tell it from a word that
+-- isn't there. What a row joins of one table was all found in one read section: a slot may have another table behind that.
 use Rattle.std.specs.Prelude.{◌≡◌, ◌≢◌, ℕ, Bool, true, false, nat_le, Some, ◌*◌, ◌+◌, ◌<◌, ◌≤◌, ◌⊎◌, List, [], ◌∷◌, ◌++◌, length, map, if◌then◌else◌}
 use Rattle.std.specs.List.{AllByRecursion, Any}
 use Rattle.rht_words.specs.declared.op.Op.{Op}
@@ -22,7 +22,7 @@ use Rattle.rht_core.specs.declared.event.Event.{Event}
 use Rattle.rht_stands.specs.StandsFor.{page_word, bucket_in, bucket_nodes, stands_for, AreBound}
 use Rattle.rht_core.specs.Traces.{Did, performed_of}
 use Rattle.rht_core.specs.Due.{pages_due}
-use Rattle.rht_core.specs.Seen.{LoadsWord, LoadsCurrent, LastWalked, SawCount, words_before}
+use Rattle.rht_core.specs.Seen.{LoadsWord, LoadsCurrent, TurnsNoSection, LastWalked, SawCount, words_before}
 
 -- the operation loaded this word of the table, and found this value in it
 pub record Loaded (g : Geometry) (address : Address) (value : ℕ) (did : Did) : Type 0 where
@@ -180,10 +180,10 @@ AreRunsTaken g pages next before (step ∷ steps) =
 
 -- where these are the words before the event with each number
 module _ (g : Geometry) (words_at : ℕ → List ℕ) where
-  -- A bind of this port is refused for want of a page on the way to the port's bucket: the last table that it walked is nested and of
-  -- this size. Behind the load of its shape the bind loaded its future as none, while the port had no owner. Then it loaded an entry of it
-  -- that leads to no page, at which the way to the port's bucket ends. Behind that load each page was seen taken in its turn, and not by an
-  -- operation of the bind behind the load.
+  -- A bind of this port is refused for want of a page on the way to the port's bucket: the last table that it walked is nested
+  -- and of this size. Behind the load of its shape, in the same section, the bind loaded its future as none, while the port had
+  -- no owner. Then, in that section still, it loaded an entry of it that leads to no page, at which the way to the port's bucket
+  -- ends. Behind that load each page was seen taken in its turn, and not by an operation of the bind behind the load.
   pub record SawNoPage (mix : ℕ → ℕ → ℕ → ℕ) (port size : ℕ) (steps : List Did) : Type 0 where
     pub table : ℕ
     pub shape : ℕ
@@ -194,6 +194,7 @@ module _ (g : Geometry) (words_at : ℕ → List ℕ) where
     pub at : Did
     pub taking : List Did
     pub split : walked.behind ≡ before ++ at ∷ taking
+    pub inside : AllByRecursion (TurnsNoSection g) before
     pub unbound : Any (SawNoneBehind g words_at port table) before
     pub entry : ℕ
     pub missing : MissesPage g words_at mix port table shape entry at
@@ -240,8 +241,9 @@ module _ (M : Type 0) (mix : ℕ → ℕ → ℕ → ℕ) (env : Env) (events : 
   SawCrowded port table shape behind =
       SawLongChain env.geometry (words_before M mix env events) mix port table shape behind ⊎ Any (SawManyPorts port shape) behind
 
-  -- The table of this slot is the last one that the call walked, and is full for this port: some operations behind the load of its
-  -- shape show that, and one comes behind these. One of them loaded the table's future as none, while the port had no owner.
+  -- The table of this slot is the last one that the call walked, and is full for this port: some operations behind the load of
+  -- its shape show that, and one comes behind these. One of them loaded the table's future as none, while the port had no owner.
+  -- They lie in the section in which the shape was loaded.
   pub record WalkedFull (port table : ℕ) (steps : List Did) : Type 0 where
     pub shape : ℕ
     pub walked : LastWalked env.geometry table shape steps
@@ -249,6 +251,7 @@ module _ (M : Type 0) (mix : ℕ → ℕ → ℕ → ℕ) (env : Env) (events : 
     pub at : Did
     pub rest : List Did
     pub split : walked.behind ≡ before ++ at ∷ rest
+    pub inside : AllByRecursion (TurnsNoSection env.geometry) before
     pub crowded : SawCrowded port table shape before
     pub unbound : Any (SawNoneBehind env.geometry (words_before M mix env events) port table) before
 

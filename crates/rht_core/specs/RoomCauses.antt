@@ -10,7 +10,7 @@ use Rattle.rht_policy.specs.Sizes.{most_ports}
 use Rattle.rht_policy.specs.Thresholds.{is_above_100}
 use Rattle.rht_core.specs.declared.event.Event.{Event}
 use Rattle.rht_core.specs.Traces.{Did}
-use Rattle.rht_core.specs.Seen.{LastWalked, SawCount, words_before}
+use Rattle.rht_core.specs.Seen.{TurnsNoSection, LastWalked, SawCount, words_before}
 use Rattle.rht_core.specs.ResizeCauses.{IsUnboundAt, SawNoneBehind, SawShortChain}
 
 -- the operation raised the count of ports
@@ -27,15 +27,17 @@ module _ (M : Type 0) (mix : ℕ → ℕ → ℕ → ℕ) (env : Env) (events : 
     pub within : is_above_100 count (size_of (unpacked shape)) env.config.max ≡ false
     pub unbound : IsUnboundAt env.geometry (words_before M mix env events) port did
 
-  -- Behind the load of the shape of the table in this slot the call raised the count. Before, it had counted fewer than 16 nodes in the port's
-  -- bucket there, all that the bucket had at the event of one of its operations, and loaded no other key. It had loaded the table's future as
-  -- none, while the port had no owner, and a count by which there is room.
+  -- Behind the load of the shape of the table in this slot, in the same section, the call raised the count. Before, it had
+  -- counted fewer than 16 nodes in the port's bucket there, all that the bucket had at the event of one of its operations, and
+  -- loaded no other key. It had loaded the table's future as none, while the port had no owner, and a count by which there is
+  -- room.
   pub record RaisedInRoom (table shape : ℕ) (behind : List Did) : Type 0 where
     pub before : List Did
     pub at : Did
     pub rest : List Did
     pub split : behind ≡ before ++ at ∷ rest
     pub raises : IsRaise env.geometry at
+    pub inside : AllByRecursion (TurnsNoSection env.geometry) before
     pub first : AllByRecursion (λ did. IsRaise env.geometry did → ⊥) before
     pub chain : SawShortChain env.geometry (words_before M mix env events) mix port table shape before
     pub none : Any (SawNoneBehind env.geometry (words_before M mix env events) port table) before

@@ -34,9 +34,22 @@ IsNoCurrentLoad g did = did.op ≢ Load (place_of g CurrentTable)
 abbrev pub TurnsSection : Geometry → ℕ → Did → Type 0
 TurnsSection g c did = did.op ≡ Add (place_of g (Section c)) 1
 
--- the operation neither loads which table is the current one nor opens or closes a read section
+-- the operation neither opens nor closes a read section
+abbrev pub TurnsNoSection : Geometry → Did → Type 0
+TurnsNoSection g did = (caller : ℕ) → caller < 16 → TurnsSection g caller did → ⊥
+
+-- nor does it load which table is the current one
 abbrev pub StaysInSection : Geometry → Did → Type 0
-StaysInSection g did = IsNoCurrentLoad g did × ((caller : ℕ) → caller < 16 → TurnsSection g caller did → ⊥)
+StaysInSection g did = IsNoCurrentLoad g did × TurnsNoSection g did
+
+-- one of these operations is so, and none before it opened or closed a read section
+pub record AnyInSection (g : Geometry) (Is : Did → Type 0) (steps : List Did) : Type 0 where
+  pub before : List Did
+  pub at : Did
+  pub behind : List Did
+  pub split : steps ≡ before ++ at ∷ behind
+  pub inside : AllByRecursion (TurnsNoSection g) before
+  pub is : Is at
 
 -- The operations came to the table of this slot from their last load of the current table on, in the section in which they made that. It
 -- found this one, or from it they came to another one, and then loaded this one as its future.

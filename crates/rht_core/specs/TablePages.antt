@@ -1,6 +1,6 @@
--- The pages of a table, as the words have them: the run of a flat one, and in a nested one the top page and each page to which an entry
--- leads.
-use Rattle.std.specs.Prelude.{◌≡◌, ℕ, ◌+◌, ◌*◌, ◌<◌, ◌⊎◌, true, false, Some, List}
+-- The pages of a table, as the words have them: the run of a flat one, and in a nested one the top page and each page to which an
+-- entry leads. And its entries.
+use Rattle.std.specs.Prelude.{◌≡◌, ℕ, ◌+◌, ◌*◌, ◌/◌, ◌%◌, ◌<◌, ◌⊎◌, true, false, Some, List}
 use Rattle.rht_words.specs.declared.geometry.Geometry.{Geometry}
 use Rattle.rht_words.specs.Links.{page_of}
 use Rattle.rht_words.specs.Members.{In}
@@ -30,3 +30,18 @@ module _ (g : Geometry) (words : List ℕ) where
   abbrev pub IsPageOfTable : ℕ → ℕ → Type 0
   IsPageOfTable shape page =
       ((is_nested shape ≡ false) × In page (pages_of_table g shape)) ⊎ ((is_nested shape ≡ true) × IsNestedPage shape page)
+
+  -- at this index, among the words of all pages, stands an entry of the top page that is in use
+  pub record IsTopEntry (shape index : ℕ) : Type 0 where
+    pub page : index / 64 ≡ top_page g shape
+    pub used : index % 64 < top_entries shape
+
+  -- or, with two levels of entries, an entry of a page to which such a one leads
+  pub record IsLowerEntry (shape index : ℕ) : Type 0 where
+    pub deep : is_deep shape ≡ true
+    pub above : LeadsOn (top_page g shape) (top_entries shape) (index / 64)
+
+  -- one of the two, of a nested table of this shape
+  pub record IsEntryOfTable (shape index : ℕ) : Type 0 where
+    pub nested : is_nested shape ≡ true
+    pub entry : IsTopEntry shape index ⊎ IsLowerEntry shape index

@@ -1,5 +1,6 @@
 -- Why a resizing was answered as it was: what its operations show of that.
 -- Every address that a row names is one of the table's words, since places alone don't tell it from a word that isn't there.
+-- What a row joins of tables was all found in one read section: a slot may have another table behind that.
 use Rattle.std.specs.Prelude.{◌≡◌, ◌≢◌, ◌↔◌, ℕ, ◌<◌, ◌==◌, ◌⊎◌, Bool, true, false, List, [], ◌∷◌, ◌++◌, map, Option, Some, None}
 use Rattle.std.specs.List.{AllByRecursion, Any}
 use Rattle.rht_words.specs.declared.op.Op.TheVariants.{Store, Exchange}
@@ -12,10 +13,11 @@ use Rattle.rht_words.specs.Places.{CurrentTable, WorkLock, PortCount, Slot, Shap
 use Rattle.rht_words.specs.Shapes.{unpacked, size_of}
 use Rattle.rht_nest.specs.MakeLaws.{StoresInSlot}
 use Rattle.rht_nest.specs.Tables.{is_nested}
+use Rattle.rht_reclaim.specs.ReturnLaws.{AreSlotsSeen}
 use Rattle.rht_move.specs.declared.work.choice.Choice.{Choice}
 use Rattle.rht_move.specs.declared.work.choice.Choice.TheVariants as choices
 use Rattle.rht_core.specs.Due.{due}
-use Rattle.rht_core.specs.Seen.{LoadsWord, TurnsSection}
+use Rattle.rht_core.specs.Seen.{LoadsWord, TurnsSection, TurnsNoSection, AnyInSection}
 use Rattle.rht_core.specs.ResizeCauses.{Loaded, Attaches, SawNoRoom}
 use Rattle.rht_core.specs.Traces.{Did, performed_of}
 
@@ -54,20 +56,23 @@ AreFuturesRead g root last (did ∷ []) = ReadsFuture g root None did × (root �
 AreFuturesRead g root last (did ∷ next ∷ dids) =
     (slot : ℕ) × ReadsFuture g root (Some slot) did × AreFuturesRead g slot last (next ∷ dids)
 
--- A resizing of this caller took the work lock, opened the caller's own read section and loaded which table is the current one. From there
--- it looked for the last table, loaded that one's shape and the count of ports, and by these chose what is due.
+-- A resizing of this caller took the work lock. Then it went through the slots, and gave each retired table back whose readers it
+-- found to have left (`AreSlotsSeen`). Behind that it opened the caller's own read section and loaded which table is the current
+-- one. From there it looked for the last table, loaded that one's shape and the count of ports, and by these chose what is due.
 pub record HasChosen (env : Env) (c : ℕ) (choice : Choice) (steps : List Did) : Type 0 where
   pub root : ℕ
   pub last : ℕ
   pub lock : Did
+  pub sooner : List Did
   pub opening : Did
   pub current : Did
   pub futures : List Did
   pub shape : Did
   pub count : Did
   pub behind : List Did
-  pub split : steps ≡ (lock ∷ opening ∷ current ∷ futures) ++ shape ∷ count ∷ behind
+  pub split : steps ≡ (lock ∷ sooner) ++ (opening ∷ current ∷ futures) ++ shape ∷ count ∷ behind
   pub took : TakesWorkLock env.geometry lock
+  pub returned : AreSlotsSeen env.geometry 0 8 (map performed_of sooner)
   pub opens : TurnsSection env.geometry c opening
   pub current_read : Loaded env.geometry CurrentTable current.old current
   pub root_is : table_of current.old ≡ root
@@ -85,10 +90,10 @@ pub record SawNoTableDue (env : Env) (c size : ℕ) (steps : List Did) : Type 0 
   pub stays : (chose.root ≡ chose.last) ⊎ (is_nested chose.shape.old ≡ true)
   pub room : SawNoRoom env.geometry size false chose.behind
 
--- no table was due, and behind this the current table was found to have no future
+-- no table was due, and behind this, in the same section, the current table was found to have no future
 pub record SawNothingDue (env : Env) (c : ℕ) (steps : List Did) : Type 0 where
   pub chose : HasChosen env c choices.Nothing steps
-  pub none : Any (ReadsFuture env.geometry chose.root None) chose.behind
+  pub none : AnyInSection env.geometry (ReadsFuture env.geometry chose.root None) chose.behind
 
 -- ---- what was moved
 
@@ -133,18 +138,20 @@ IsUnattached g last choices.Later steps = Unit {0}
 IsUnattached g last choices.Nothing steps = ⊥
 
 -- A resizing made the table the current one that it had loaded as the future of the one which was current, and then looked for a
--- further one behind that. It says that there is more to do exactly where it found one, or where a table that was due wasn't attached.
+-- further one behind that. All this it did in the section in which it chose. It says that there is more to do exactly where it
+-- found one, or where a table that was due wasn't attached.
 pub record SawPublished (env : Env) (c : ℕ) (again : Bool) (steps : List Did) : Type 0 where
   pub choice : Choice
   pub chose : HasChosen env c choice steps
   pub table : ℕ
   pub behind : List Did
   pub published : HasPublished env.geometry table behind chose.behind
+  pub inside : AllByRecursion (TurnsNoSection env.geometry) published.before
   pub followed : Any (ReadsFuture env.geometry chose.root (Some table)) published.before
-  pub looked : Any (LoadsWord env.geometry (Slot table FutureWord)) behind
+  pub looked : AnyInSection env.geometry (LoadsWord env.geometry (Slot table FutureWord)) behind
   pub again_right :
       (again ≡ true)
-      ↔ (Any (λ did. (next : ℕ) × ReadsFuture env.geometry table (Some next) did) behind
+      ↔ (AnyInSection env.geometry (λ did. (next : ℕ) × ReadsFuture env.geometry table (Some next) did) behind
       ⊎ IsUnattached env.geometry chose.last choice chose.behind)
 
 -- the operation stored a word, and not that of the current table
@@ -176,11 +183,11 @@ abbrev pub HasTriedIfNeeded : Geometry → ℕ → ℕ → ℕ → Choice → Li
 HasTriedIfNeeded g root last shape choice steps =
     (size : ℕ) → choice ≡ choices.Attach size → (root ≡ last) ⊎ (is_nested shape ≡ true) → HasTried g last size steps
 
--- Behind its choice a resizing looked anew for the last table behind the current one, which was another one. It loaded that this was
--- nested; nothing is moved to such a table. There the current table was still the one that it had chosen from. Where it couldn't do without
--- the table that was due it had tried to attach that. Behind the load it closed its caller's own read section, once. All its other operations
--- behind the load stored words, and none of them that of the current table. And it says that there is more to do. `words_at` gives the words
--- before the event with each number.
+-- Behind its choice, in the same section, a resizing looked anew for the last table behind the current one, which was another
+-- one. It loaded that this was nested; nothing is moved to such a table. There the current table was still the one that it had
+-- chosen from. Where it couldn't do without the table that was due it had tried to attach that. Behind the load it closed its
+-- caller's own read section, once. All its other operations behind the load stored words, and none of them that of the current
+-- table. And it says that there is more to do. `words_at` gives the words before the event with each number.
 pub record SawStopped (env : Env) (c : ℕ) (words_at : ℕ → List ℕ) (again : Bool) (steps : List Did) : Type 0 where
   pub more : again ≡ true
   pub choice : Choice
@@ -192,6 +199,7 @@ pub record SawStopped (env : Env) (c : ℕ) (words_at : ℕ → List ℕ) (again
   pub shape : Did
   pub behind : List Did
   pub split : chose.behind ≡ (before ++ futures) ++ shape ∷ behind
+  pub inside : AllByRecursion (TurnsNoSection env.geometry) before
   pub futures_read : AreFuturesRead env.geometry chose.root last futures
   pub apart : chose.root ≢ last
   pub shape_read : Loaded env.geometry (Slot last ShapeWord) shape.old shape

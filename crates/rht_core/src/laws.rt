@@ -1,15 +1,16 @@
 //! The laws of every run. Each function is empty, and its clause is the law.
 
 ghost use Rattle.rht_core.specs.Alone.{Alone};
-ghost use Rattle.rht_core.specs.Attached.{Attached};
+ghost use Rattle.rht_core.specs.Attached.{Attached, KeepsAtRetiring};
 ghost use Rattle.rht_core.specs.Causes.{Causes};
 ghost use Rattle.rht_core.specs.Counts.{Counted, AtRest, OwnBatches};
 ghost use Rattle.rht_core.specs.Tidied.{Tidied};
 ghost use Rattle.rht_core.specs.FewPorts.{FewPorts, OneCaller};
+ghost use Rattle.rht_core.specs.Free.{AreFreePagesBlank, AreFreeSlotsUnled};
 ghost use Rattle.rht_core.specs.Kicks.{Kicks};
 ghost use Rattle.rht_core.specs.LetGo.{LetGo};
 ghost use Rattle.rht_core.specs.ListedOwners.{ListedOwners};
-ghost use Rattle.rht_core.specs.Lookups.{Bounded, TidiesSoon, WalksSoon, TakesEffect, FindsWhatStays, Harmless, ReadsInside};
+ghost use Rattle.rht_core.specs.Lookups.{Bounded, MeetsFewTables, TidiesSoon, WalksSoon, TakesEffect, FindsWhatStays, Harmless, ReadsInside};
 ghost use Rattle.rht_core.specs.NeverRefused.{RoomyTakesAll, OneWorkerAsModel};
 ghost use Rattle.rht_core.specs.NodesUsed.{Nodes};
 ghost use Rattle.rht_core.specs.Placed.{Placed, OwnPages};
@@ -20,7 +21,7 @@ ghost use Rattle.rht_core.specs.RunHistories.{HasFittingHistory};
 ghost use Rattle.rht_core.specs.Sections.{Sections, OwnSections};
 ghost use Rattle.rht_core.specs.Shown.{Shown, ShownWhole};
 ghost use Rattle.rht_core.specs.ToldHistories.{HasToldHistory};
-ghost use Rattle.rht_core.specs.Worked.{Worked};
+ghost use Rattle.rht_core.specs.Worked.{Worked, GivesRetiredBack};
 ghost use Rattle.rht_core.specs.Laws.{Extends, InRange, Enrolled, NotEnrolled, Replies, Remembers, AtEvents, AllStepsTraced, TakenAlone, WordsFit};
 
 use rht_policy::Mix;
@@ -113,6 +114,9 @@ pub fn taken_alone<M: Mix>()
 /// while its port had no owner. And it had loaded a count that is fewer than the table may hold, and no more than
 /// that table has buckets, where that may grow. It doesn't say that either was still so at the raise.
 ///
+/// What these rows and the next join of one table lies in one read section of the call: from its load of the current
+/// table on, up to the last operation of which the row speaks. For a slot may have another table behind that.
+///
 /// `Again`, `Busy` and `NoTable` of a bind have as their cause first that the last table that it walked is full. It
 /// came to that table along the futures, from its last load of the current one before. Then it counted 16 nodes or
 /// more in its port's bucket there, by the table's seed as it then was. At the last of them so many ports were bound,
@@ -133,12 +137,14 @@ pub fn taken_alone<M: Mix>()
 /// the bind loaded its future as none, while its port had no owner. Then it loaded an entry of it that led to no
 /// page, at which the way to the port's bucket ends. Behind that each page was seen taken in its turn.
 ///
-/// A `Work` that was answered `Elsewhere` found the work lock taken. Any other one took it, and then opened its own
-/// caller's read section. It loaded which table is the current one, and looked for the last table from there on. By
-/// that table's shape and by the count of ports it chose what is due. For `NoTable` that was a table that wasn't to
-/// be had, while the last one was the current one or nested. For `Idle` nothing was due, and the current table had no
-/// future. `Moved` stored another current table and then loaded its future. There is more to do exactly where it
-/// found one, or attached no flat table of the size that was due.
+/// A `Work` that was answered `Elsewhere` found the work lock taken. Any other one took it. Then it went through the
+/// slots, and gave each retired table back whose readers it found to have left, as `laws::returns_tables` of
+/// `rht_reclaim` says; it did nothing else before it opened its own caller's read section. It loaded which table is the
+/// current one, and looked for the last table from there on. By that table's shape and by the count of ports it chose
+/// what is due. For `NoTable` that was a table that wasn't to be had, while the last one was the current one or nested.
+/// For `Idle` nothing was due, and the current table had no future. `Moved` stored another current table and then
+/// loaded its future. There is more to do exactly where it found one, or attached no flat table of the size that was
+/// due.
 ///
 /// Or `Moved` stopped, and there is more to do. It looked for the last table anew, found another one than the current
 /// one, and loaded that this is nested. At that load the current table was still the one that it had chosen from.
@@ -198,10 +204,16 @@ pub fn alone<M: Mix>()
 /// A resizing that was answered `Idle`, while no other caller was in the middle of a call, leaves nothing to do: one
 /// table is in force, and it is flat; the ports bound are neither too many for its size, where it may grow, nor,
 /// where shrinking is on, too few; and the work lock is free. One that was answered `Moved` has made another table
-/// the current one. The run's other events are arbitrary. It doesn't say that the call ends, and nothing of one
-/// during which others were in calls.
+/// the current one. And each table that was retired as the call began has been given back by it, unless it was answered
+/// `Elsewhere`. The run's other events are arbitrary.
+///
+/// Whoever else is in a call, a resizing that has taken the work lock gives back each table that was retired then, and
+/// over which no section is open while the call lasts: of each other caller, the word that was kept in the table's slot
+/// is even, or isn't the caller's section word. To give a table back is to store that its slot is free, where it was
+/// retired. It doesn't say that the call ends, and nothing of a table over which a section may be open.
 pub fn worked<M: Mix>()
-    ensures { Worked M M.mix_of }
+    ensures alone { Worked M M.mix_of }
+    ensures returned { GivesRetiredBack M M.mix_of }
 {}
 
 /// Every run has a history that fits it, whatever the order of its events. The history is legal. Its entries carry
@@ -236,11 +248,12 @@ pub fn counted<M: Mix>()
 /// that are bound. So no node is lost: a bind that is refused, or finds its port bound, has given its node back, and
 /// so has a rebind that is answered `Absent`.
 ///
-/// Slots: each that isn't free is retired, or has a table in force; and each table that was left behind is retired.
-/// Pages: each is free, or one of a table whose slot isn't free. It is in the run of a flat table; of a nested one it
-/// is the top page, or one to which an entry leads. So no slot or page is lost. What was taken for a table that
-/// wasn't attached has been given back; and so has what was taken for an entry behind which another page was entered.
-/// Or it stands in a slot that was retired.
+/// Slots: each that isn't free is retired, or has a table in force; and each table that was left behind is retired, or
+/// was given back. Pages: each is free, and then each of its words is 0; or it is one of a table whose slot isn't
+/// free, and of no other such. It is in the run of a flat table; of a nested one it is the top page, or one to which
+/// an entry leads. So no slot or page is lost. What was taken for a table that wasn't attached has been given back; and
+/// so has what was taken for an entry behind which another page was entered. And of a table that was given back no page
+/// is left taken.
 ///
 /// And in every run, whoever else is in a call, a caller that is in none has as many nodes in its batch as its own
 /// calls took out, and its tidyings didn't give back.
@@ -282,15 +295,24 @@ pub fn tidied<M: Mix>()
 /// given back nor entered before, with the bits of these pages. Its operations had come to the table of such an
 /// entry, and by the words before the way to one of that table's buckets ended there. It doesn't say what stands in
 /// these words, nor that a refused bind attached or entered none.
+///
+/// A `Work` that is answered `NoTable`, `Elsewhere` or `Idle` may have given retired tables back. So for each bit it may
+/// have made one operation that turns the bit in giving back: by that it stored 0 in the state of a slot, where it found
+/// that the table there is retired; or it stored 0 in an entry that led to a page; or it set the bit of a page. The entry
+/// and the pages are of the table in a slot that it gave back so behind the operation; they are by the words as they were
+/// when it loaded the table's shape before, the table being retired then. But for that one operation it turned the bit an
+/// even number of times, or it is one of those above. Other words it leaves as any other refused call does.
 pub fn refused<M: Mix>()
     ensures { Refused M M.mix_of }
 {}
 
 /// In every run each call that has ended, whatever its reply, has let go of the work lock, of the lock of each
-/// bucket, and of its caller's read section: it turned the lowest bit of the word an even number of times. The one
-/// exception is the word of an entry at which the call, a bind, entered a page that it had taken; by the words
-/// before, the entry was one of a nested table to which the call had come, and led to none. It says nothing of a call
-/// in progress, nor that a call ends; and of the work lock it speaks by its lowest bit alone.
+/// bucket, and of its caller's read section: it turned the lowest bit of the word an even number of times. There are two
+/// exceptions. One is the word of an entry at which the call, a bind, entered a page that it had taken; by the words
+/// before, the entry was one of a nested table to which the call had come, and led to none. The other is the word of an
+/// entry at which the call, a `Work`, stored 0 in giving a retired table back, as `refused` has it: it turned the word's
+/// lowest bit an even number of times but for that one store. It says nothing of a call in progress, nor that a call
+/// ends; and of the work lock it speaks by its lowest bit alone.
 pub fn let_go<M: Mix>()
     ensures { LetGo M M.mix_of }
 {}
@@ -310,11 +332,21 @@ pub fn sections<M: Mix>()
 /// buckets of such tables. And it could reach those to which list links lead from these, and from the nodes of lists
 /// at which it stands. To give back is to set a map's bit that was clear, or to free a slot that wasn't free. So a
 /// node that a release or a rebind took out is given back only where no caller in its section could come to it any
-/// more. It doesn't say that it is given back, nor where a caller stands, which `inside` ties to what it does. Nor
-/// does it speak of callers out of their sections.
+/// more; and so are the pages and the slot of a table that was retired. It doesn't say that they are given back, nor
+/// where a caller stands, which `inside` ties to what it does. Nor does it speak of callers out of their sections.
 pub fn safe<M: Mix>()
     ensures given { Safe M M.mix_of }
     ensures taken { NeverFree M M.mix_of }
+{}
+
+/// In every run each word of a free page is 0, whoever had the page before: so who takes pages for a table finds empty
+/// buckets there, or entries that lead nowhere. And no future leads to a free slot that a caller in its read section
+/// could load: the table of such a future is one that it could reach, as `safe` has it. It says nothing of the words
+/// of a free slot, nor of futures that nobody could load: the slot of a table that is being made may keep the future
+/// that its last table had, until the maker stores none there.
+pub fn free<M: Mix>()
+    ensures pages { AreFreePagesBlank M M.mix_of }
+    ensures slots { AreFreeSlotsUnled M M.mix_of }
 {}
 
 /// In every run an operation of a call that is on a word of a node is on one that the call has, or on one that its
@@ -323,22 +355,30 @@ pub fn safe<M: Mix>()
 /// of its table. An operation on a word of a page is made in the section, on a page of a table that the caller could
 /// reach. And in the section alone it operates on which table is the current one.
 ///
+/// There is one exception, of a `Work` that says to have the work lock, and is in no section. Of a table whose slot
+/// says that it is retired, and that nobody could reach, it may load the shape; and where it is nested, entries that
+/// are in use, by the words as they then are, in pages that nobody could reach. It may store 0 in such an entry, if
+/// the entry leads to no page, or to one whose words are all 0. So it operates on no word of a bucket there.
+///
 /// Behind each operation in its section the caller stands only where it could come to before it. Out of its section,
 /// and where it has just opened it, it stands nowhere. So of these things a call operates on those that it has
-/// itself, and on those to which it has come in this section, from a table that was the current one at some moment of
-/// it. It says nothing of the states of slots, of the maps, the count, the work lock, the next serial and section
-/// words. Nor does it say that a call has taken what it has.
+/// itself, on those to which it has come in this section, from a table that was the current one at some moment of it,
+/// and on those of the exception. It says nothing of the states of slots, of the words that are kept there, of the
+/// maps, the count, the work lock, the next serial and section words. Nor does it say that a call has taken what it
+/// has.
 pub fn inside<M: Mix>()
     ensures { Inside M M.mix_of }
 {}
 
 /// In every run a look-up, ended or in progress, has at most `4 + 8 * (4 + (rewalks + 1) * (4 + 2 * nodes))`
 /// operations, which is enough for `rewalks + 1` walks of `nodes` nodes in each of eight tables. That is so whatever
-/// other callers do or leave undone, also where one that holds a lock never steps again. A tidying, ended or in
-/// progress, has at most two operations for each caller, one for each node, and one. A walk, ended or in progress,
-/// has at most six, and for each bucket of the table whose shape it found four and three for each node.
+/// other callers do or leave undone, also where one that holds a lock never steps again. And it loads the shape of each
+/// slot at most once: it meets no slot twice, though tables are given back meanwhile, and slots get others. A tidying,
+/// ended or in progress, has at most two operations for each caller, one for each node, and one. A walk, ended or in
+/// progress, has at most six, and for each bucket of the table whose shape it found four and three for each node.
 pub fn bounded<M: Mix>()
     ensures lookups { Bounded M M.mix_of }
+    ensures tables { MeetsFewTables M M.mix_of }
     ensures tidyings { TidiesSoon M M.mix_of }
     ensures walks { WalksSoon M M.mix_of }
 {}
@@ -398,13 +438,23 @@ pub fn harmless<M: Mix>()
 /// An entry leads to no page where the way to a bucket of a nested table ends. Where that table is in force, or the
 /// call's operations before had come to it, no operation changes such an entry, but for one of a bind that enters a
 /// page there. The bind had taken the page, and by the words before, the way to its own port's bucket ends there, in
-/// the table that it walked last. Of the entries of a table that was left behind it says nothing where the call
-/// hadn't come to that table from its last load of the current one on.
+/// the table that it walked last. Nor does any operation change an entry of such a table that leads to a page. Of the
+/// entries of a table that was left behind it says nothing where the call hadn't come to that table from its last load
+/// of the current one on, in one section. Of those `inside` says who may change them.
 ///
-/// Nor does it change the word that says whether a slot is free, but in three cases. A bind or a `Work` takes a slot
+/// Nor does it change the word that says whether a slot is free, but in four cases. A bind or a `Work` takes a slot
 /// that was free. A call gives back a slot of its own, in which by the words before no table is in force. Or a `Work`
 /// that has the work lock retires a slot, in the place of whose table it has made another one current. By the words
-/// before, that table isn't in force, and from it futures lead to the current one.
+/// before, that table isn't in force, and from it futures lead to the current one. Or a `Work` that has the work lock
+/// gives back a slot whose table is retired. It had found that, and since then it has only found of each caller in order
+/// that it has left, and then given the table's pages back, as `laws::returns_tables` of `rht_reclaim` says. A caller has
+/// left if an even word is kept of it in the slot, or its section word is another one than the one that is kept.
+///
+/// Nor does it change a word that is kept of a section in a slot, but for one of a `Work` that has the work lock. It
+/// stores there the section word of the caller whose word it is, as the operation before it found that. And the call has
+/// retired the slot's table before. So who retires a table keeps of each caller a word that it loads behind that. A
+/// call that has ended, and retired a table, has loaded and kept such a word of every caller, in order, and then given
+/// the work lock back, and did nothing else behind the retiring.
 ///
 /// Nor does it change the word of the work lock, but for one of a `Work`. That takes the lock, by an exchange of 0
 /// for 1, or stores 0, where its own operations took it and didn't change that word since. In these words a `Work`
@@ -412,7 +462,8 @@ pub fn harmless<M: Mix>()
 ///
 /// It doesn't say that a slot which was taken is given back, or that a table is ever attached, or a page entered.
 pub fn attached<M: Mix>()
-    ensures { Attached M M.mix_of }
+    ensures changes { Attached M M.mix_of }
+    ensures kept { KeepsAtRetiring M M.mix_of }
 {}
 
 /// In every run a call is answered `NoNode` only where as many calls as there are nodes have taken one, or may have:

@@ -9,6 +9,7 @@ mod closing;
 mod lists;
 mod refusals;
 mod resizing;
+mod returning;
 mod tidying;
 
 ghost use Rattle.std.specs.Prelude.{◌≡◌, ◌<◌, true, length, IfSome};

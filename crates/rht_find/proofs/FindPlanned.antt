@@ -3,7 +3,7 @@ use Rattle.std.proofs.Common.{ℕ, ◌<◌, refl, arith}
 use Rattle.rht_words.specs.declared.env.Env.{Env}
 use Rattle.rht_words.specs.Places.{CurrentTable, Slot, FutureWord, Node, KeyWord, ChainLink, OwnerWord}
 use Rattle.rht_words.specs.Planned.{IsPlannedIn}
-use Rattle.rht_words.proofs.PlannedWords.{planned-at, planned_load, planned_bucket}
+use Rattle.rht_words.proofs.PlannedWords.{planned_load, planned_bucket}
 use Rattle.rht_nest.proofs.Reaches.{planned_reach}
 use Rattle.rht_grace.proofs.SectionsPlanned.{planned_enter, planned_leave}
 use Rattle.rht_find.specs.Find.{plan_at, IsFindAtIn}

@@ -176,7 +176,7 @@ module _ (env : Env) (mix : ℕ → ℕ → ℕ → ℕ) (c : ℕ) (port : ℕ) 
     pub find_step : (state : FindAt) → FindKnows state M G → FindStep state
     find_step at.Opening knows =
         answered env mix None (inl refl) (still_has refl)
-        (open_step env mix c held.holds_nothing known_nothing words G all whole low knows)
+        (open_step env mix c held.holds_nothing known_nothing refl words G all whole low knows)
     find_step at.CurrentTable knows =
         goes_on at.CurrentTable (locating env (table_of (old_of words (plan_at env c at.CurrentTable)))) refl refl refl knows
     find_step (at.Locating reach) knows =
@@ -201,7 +201,7 @@ module _ (env : Env) (mix : ℕ → ℕ → ℕ → ℕ) (c : ℕ) (port : ℕ) 
         claims_it (at.Owner node) (Found owner) refl refl (found_right owner) refl knows
     find_step (at.Closing reply) knows =
         answered env mix (Some (plain reply)) (inl (keeps reply)) (still_has refl)
-        (close_step env mix c (held.ended_with (plain reply)) known_nothing words G all whole low knows)
+        (close_step env mix c (held.ended_with (plain reply)) known_nothing refl words G all whole low refl refl knows)
       where
         keeps : (reply : Reply) → KeepsAnswer (Some (plain reply)) (Some (plain reply))
         keeps reply = record { reply = refl; owners = refl }

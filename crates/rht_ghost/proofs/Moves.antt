@@ -26,6 +26,8 @@ pub mod Departures
 pub mod CutOffs
 -- the moves of the work by what is known before and after them
 pub mod Working
+-- section words are kept in the slot of a table that is being retired, which is retired then
+pub mod Keeping
 -- what the work has after its moves
 pub mod WorkHoldings
 -- slots are taken and given back, and their words are written
@@ -38,3 +40,9 @@ pub mod Pages
 pub mod Attaching
 -- a page is entered behind an entry
 pub mod Entering
+-- a page of a retired table is withdrawn
+pub mod Withdrawing
+-- and such a table leaves its slot
+pub mod TakingBack
+-- what the work has after these moves
+pub mod ReturnHoldings

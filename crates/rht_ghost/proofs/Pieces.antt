@@ -42,3 +42,9 @@ pub mod Makes
 pub mod Attaches
 -- the stores of the work: entries are moved, and tables left behind and retired
 pub mod WorkStores
+-- section words are kept in the slot of the table that is being retired
+pub mod KeepSteps
+-- what the caller that does the work learns by its loads while it gives retired tables back
+pub mod ReturnLoads
+-- and what it does to give them back
+pub mod ReturnStores

@@ -10,6 +10,10 @@ pub mod Wholes
 pub mod Entries
 -- a page that is entered
 pub mod EnteredPages
+-- a nested table without entries that lead on
+pub mod BareTables
+-- and one that is withdrawn
+pub mod WithdrawnPages
 -- and the words say of places what the ghost does
 pub mod PlacesRead
 -- and of the entries at which ways end
@@ -29,19 +33,29 @@ pub mod Reliance
 -- what is known stays where a step leaves what it speaks of: of the way to a bucket, and of all else
 pub mod WaysStay
 pub mod KnowledgeStays
+-- of a table that is given back
+pub mod GivingStays
 -- and why others leave it
 pub mod KnowledgeKept
 -- what has to be known where a store binds a port
 pub mod Readiness
 -- what the work makes of the ghost, and what must be known where it does
 pub mod Departures
+-- what a step leaves of read sections
+pub mod SectionFrames
 -- what a step leaves where it writes elsewhere
 pub mod Frames
 -- and of the parts of the whole
 pub mod WholeFrames
 -- what a step leaves that changes tables, slots and pages alone
 pub mod TableFrames
+-- a retired table to which no open section comes
+pub mod TablesOver
+-- what a step leaves that takes something of such a table
+pub mod TablesGone
 -- what an operation says about bindings, and what is known of a call's answer
 pub mod Answering
+-- what a step leaves where tables stay what they are
+pub mod TablesUnchanged
 -- one operation of a caller, and what it knows afterwards
 pub mod Steps

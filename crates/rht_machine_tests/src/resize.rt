@@ -1,10 +1,12 @@
 //! The resizing alone, told old values by hand. In a table of 8 nodes and 4 pages the node map is at
 //! 280, the page map at 281, node n from 282 + 4 * n on (its chain link, key, owner and list link),
-//! slot t from 24 + 32 * t on (shape, seed, future, serial and state), and the pages from 314 on. The
-//! current table is in slot 0, with 4 buckets in page 0 (so its shape is 2), from 314 to 317. The
-//! section word of caller 1 is at 9.
+//! slot t from 24 + 32 * t on (shape, seed, future, serial and state, and from 8 behind the shape on the
+//! section words that were kept), and the pages from 314 on. The current table is in slot 0, with 4
+//! buckets in page 0 (so its shape is 2), from 314 to 317. There are two callers, and caller 1 is the
+//! worker. The section word of caller 0 is at 8, and that of caller 1 at 9.
 
 mod nested;
+mod returning;
 
 use crate::asserts::{Machine, assert_parts, assert_same};
 use rht_model::Reply;
@@ -17,11 +19,12 @@ use std::process::Abort;
 /// All bits of a word.
 const ALL: u64 = 18_446_744_073_709_551_615;
 
-/// A table of 8 nodes and 4 pages.
+/// A table of 8 nodes and 4 pages, for two callers.
 fn small(shrink: bool) -> Config {
     Config {
         nodes: 8,
         pages: 4,
+        callers: 2,
         hint: 1,
         hash: Hash::Low,
         shrink,
@@ -52,11 +55,65 @@ fn assert_work(rt: &impl Abort, config: Config, steps: &[&[(Op, u64)]], reply: R
     assert_parts(rt, begun(rt, config), steps, reply);
 }
 
-/// The work lock is taken and the section opened. The current table has this shape and is the only one,
-/// and so many ports are bound.
-fn alone(shape: u64, count: u64) -> [(Op, u64); 6] {
+/// The work lock is taken, and the states of all slots are loaded: a table is in slot 0, these are the
+/// states of the slots 1 and 2, and the others are free. No table is retired, so none is given back.
+fn taken(second: u64, third: u64) -> [(Op, u64); 9] {
     [
         (Op::exchange(1, 0, 1), 0),
+        (Op::load(28), 1),
+        (Op::load(60), second),
+        (Op::load(92), third),
+        (Op::load(124), 0),
+        (Op::load(156), 0),
+        (Op::load(188), 0),
+        (Op::load(220), 0),
+        (Op::load(252), 0),
+    ]
+}
+
+/// The same where a table is in slot 1 too, and the states of the other slots come behind.
+const TAKEN: [(Op, u64); 3] = [
+    (
+        Op::Exchange {
+            place: 1,
+            old: 0,
+            new: 1,
+        },
+        0,
+    ),
+    (Op::Load { place: 28 }, 1),
+    (Op::Load { place: 60 }, 1),
+];
+
+/// The tables of all slots from slot 2 on are retired. Caller 0, whose word was kept in each of them, is
+/// still in the section in which it was then, so they stay.
+fn held_back() -> [(Op, u64); 18] {
+    [
+        (Op::load(92), 2),
+        (Op::load(96), 3),
+        (Op::load(8), 3),
+        (Op::load(124), 2),
+        (Op::load(128), 3),
+        (Op::load(8), 3),
+        (Op::load(156), 2),
+        (Op::load(160), 3),
+        (Op::load(8), 3),
+        (Op::load(188), 2),
+        (Op::load(192), 3),
+        (Op::load(8), 3),
+        (Op::load(220), 2),
+        (Op::load(224), 3),
+        (Op::load(8), 3),
+        (Op::load(252), 2),
+        (Op::load(256), 3),
+        (Op::load(8), 3),
+    ]
+}
+
+/// The section is opened. The current table has this shape and is the only one, and so many ports are
+/// bound.
+fn alone(shape: u64, count: u64) -> [(Op, u64); 5] {
+    [
         (Op::add(9, 1), 4),
         (Op::load(0), 0),
         (Op::load(26), 0),
@@ -66,9 +123,8 @@ fn alone(shape: u64, count: u64) -> [(Op, u64); 6] {
 }
 
 /// The same where behind the current table is one in slot 1, which has this shape and is the last one.
-fn two(shape: u64, count: u64) -> [(Op, u64); 7] {
+fn two(shape: u64, count: u64) -> [(Op, u64); 6] {
     [
-        (Op::exchange(1, 0, 1), 0),
         (Op::add(9, 1), 4),
         (Op::load(0), 0),
         (Op::load(26), 2),
@@ -151,13 +207,17 @@ const LET_GO: [(Op, u64); 2] = [
 ];
 
 /// The table in slot 1 is the current one, with this word for its future. The section is closed, and
-/// slot 0 retired.
-fn published(future: u64) -> [(Op, u64); 5] {
+/// slot 0 retired. The section words of both callers are kept there; caller 0 is in a section.
+fn published(future: u64) -> [(Op, u64); 9] {
     [
         (Op::store(0, 1), 0),
         (Op::load(58), future),
         (Op::add(9, 1), 5),
         (Op::store(28, 2), 1),
+        (Op::load(8), 3),
+        (Op::store(32, 3), 0),
+        (Op::load(9), 6),
+        (Op::store(33, 6), 0),
         (Op::store(1, 0), 1),
     ]
 }
@@ -168,17 +228,16 @@ fn workers_that_move_nothing(rt: HostRuntime) {
     let elsewhere = [(Op::exchange(1, 0, 1), 1)];
     assert_work(&rt, growing, &[&elsewhere], Reply::Elsewhere);
     // three of four buckets' ports are not too many, and none is too few for the least size
+    let begins = taken(0, 0);
     let none = [(Op::load(26), 0)];
-    assert_work(&rt, growing, &[&alone(2, 3), &none, &LET_GO], Reply::Idle);
-    assert_work(
-        &rt,
-        small(true),
-        &[&alone(2, 0), &none, &LET_GO],
-        Reply::Idle,
-    );
-    // no slot for a table of 8
+    let idle: [&[(Op, u64)]; 4] = [&begins, &alone(2, 3), &none, &LET_GO];
+    assert_work(&rt, growing, &idle, Reply::Idle);
+    let idle: [&[(Op, u64)]; 4] = [&begins, &alone(2, 0), &none, &LET_GO];
+    assert_work(&rt, small(true), &idle, Reply::Idle);
+    // no slot for a table of 8, since those of the retired ones don't come back
     let refused = Reply::NoTable { size: 8 };
-    assert_work(&rt, growing, &[&alone(2, 4), &no_slot(), &LET_GO], refused);
+    let no_slot: [&[(Op, u64)]; 5] = [&TAKEN, &held_back(), &alone(2, 4), &no_slot(), &LET_GO];
+    assert_work(&rt, growing, &no_slot, refused);
     // no run of pages: the slot is given back
     let no_page = [
         (Op::exchange(28, 0, 1), 1),
@@ -189,7 +248,8 @@ fn workers_that_move_nothing(rt: HostRuntime) {
         (Op::load(281), 0),
         (Op::store(60, 0), 1),
     ];
-    assert_work(&rt, growing, &[&alone(2, 4), &no_page, &LET_GO], refused);
+    let no_page: [&[(Op, u64)]; 4] = [&begins, &alone(2, 4), &no_page, &LET_GO];
+    assert_work(&rt, growing, &no_page, refused);
 }
 
 /// The last entry of the bucket at 314 is node 0, with port 4, and node 1 is before it. It is moved
@@ -274,7 +334,8 @@ fn a_table_grows_and_is_emptied_into_two(rt: HostRuntime) {
         (Op::load(314), 1),
         (Op::store(314, 0), 1),
     ];
-    let steps: [&[(Op, u64)]; 10] = [
+    let steps: [&[(Op, u64)]; 11] = [
+        &taken(0, 0),
         &alone(2, 4),
         &made(14, 2, 1_027), // 3 + 1024 * 1
         &attached,
@@ -295,7 +356,8 @@ fn a_table_is_moved_that_has_a_future(rt: HostRuntime) {
     let [first, second, third, fourth] = &empties;
     // Four ports are not too many for 8, and with shrinking on they are not too few.
     for shrink in [false, true] {
-        let steps: [&[(Op, u64)]; 7] = [
+        let steps: [&[(Op, u64)]; 8] = [
+            &taken(1, 0),
             &two(1_027, 4),
             &BEGUN,
             first,
@@ -307,7 +369,8 @@ fn a_table_is_moved_that_has_a_future(rt: HostRuntime) {
         assert_work(&rt, small(shrink), &steps, Reply::Moved { again: false });
     }
     // A smaller table is due, but not now.
-    let steps: [&[(Op, u64)]; 7] = [
+    let steps: [&[(Op, u64)]; 8] = [
+        &taken(1, 0),
         &two(1_027, 1),
         &BEGUN,
         first,
@@ -318,7 +381,9 @@ fn a_table_is_moved_that_has_a_future(rt: HostRuntime) {
     ];
     assert_work(&rt, small(true), &steps, Reply::Moved { again: true });
     // A larger one is due behind the last, and can't be had.
-    let steps: [&[(Op, u64)]; 8] = [
+    let steps: [&[(Op, u64)]; 10] = [
+        &TAKEN,
+        &held_back(),
         &two(1_027, 7),
         &no_slot(),
         &BEGUN,
@@ -348,7 +413,13 @@ fn a_move_stops_before_a_nested_table(rt: HostRuntime) {
         (Op::load(88), 3_111),
         (Op::store(314, 4), 5),
     ];
-    let steps: [&[(Op, u64)]; 4] = [&alone(2, 4), &made(14, 2, 1_027), &lost, &LET_GO];
+    let steps: [&[(Op, u64)]; 5] = [
+        &taken(0, 0),
+        &alone(2, 4),
+        &made(14, 2, 1_027),
+        &lost,
+        &LET_GO,
+    ];
     assert_work(&rt, small(false), &steps, Reply::Moved { again: true });
 }
 

@@ -14,6 +14,8 @@ pub mod WorkPlanned
 pub mod WorkKnowledge
 -- what leads it from one state to the next
 pub mod WorkLeads
+-- how it gives retired tables back
+pub mod WorkReturns
 -- the last table, and one that is attached behind it
 pub mod WorkTables
 -- the next bucket of the current table

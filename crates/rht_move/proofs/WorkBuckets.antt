@@ -214,5 +214,5 @@ module _ (env : Env) (mix : ℕ → ℕ → ℕ → ℕ) (c : ℕ) (words : List
       IsWorkAtIn env here → WorkKnows here M G → WorkStep here
   locking rehash number lock is known =
       locked_leads rehash number lock (lock_after lock (old_of words (lock_plan lock)))
-      (lock_work_step env mix c (moving_at None) words G all whole
+      (lock_work_step env mix c (moving_at None) words G all whole refl
       (known_rehash rehash) number lock is.lock_in.even known)

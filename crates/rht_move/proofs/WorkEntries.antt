@@ -254,7 +254,7 @@ module _ (env : Env) (mix : ℕ → ℕ → ℕ → ℕ) (c : ℕ) (words : List
       IsWorkAtIn env here → WorkKnows here M G → WorkStep here
   locking_second emptying entry table lock is known =
       second_leads emptying entry table lock (lock_after lock (old_of words (lock_plan lock)))
-      (lock_second_step env mix c (moving_at None) words G all whole refl (known_rehash emptying.rehash)
+      (lock_second_step env mix c (moving_at None) words G all whole refl refl (known_rehash emptying.rehash)
       (known_place emptying) (known_entry entry) lock is.lock_in.even known)
 
   -- ---- the entry is moved

@@ -1,5 +1,6 @@
 -- What a resizing knows in each state: what it holds of the work, and of the table that it makes.
-use Rattle.std.proofs.Common.{ℕ, Bool, true, false, List, Some, None}
+use Rattle.std.proofs.Common.{ℕ, ◌+◌, Bool, true, false, List, [], ◌∷◌, Some, None}
+use Rattle.std.specs.Prelude.{if◌then◌else◌}
 use Rattle.rht_words.specs.declared.env.Env.{Env}
 use Rattle.rht_words.specs.declared.machine.Next.{Next}
 use Rattle.rht_words.specs.declared.machine.Next.TheVariants.{Go, Done}
@@ -8,6 +9,14 @@ use Rattle.rht_words.specs.Shapes.{unpacked, size_of}
 use Rattle.rht_words.specs.Operations.{old_of}
 use Rattle.rht_words.proofs.Memory.{Memory}
 use Rattle.rht_nest.specs.Unmake.{pages_of_unmake}
+use Rattle.rht_arena.specs.GiveRun.{pages_of_give_run}
+use Rattle.rht_reclaim.specs.ReturnHeld.{is_first_word}
+use Rattle.rht_reclaim.specs.declared.keep_sections.KeepSectionsAt.{KeepSectionsAt}
+use Rattle.rht_reclaim.specs.declared.keep_sections.KeepSectionsAt.TheVariants as keeps
+use Rattle.rht_reclaim.specs.declared.give_table.GiveTableAt.{GiveTableAt}
+use Rattle.rht_reclaim.specs.declared.give_table.GiveTableAt.TheVariants as gives
+use Rattle.rht_reclaim.specs.declared.return_tables.ReturnTablesAt.{ReturnTablesAt}
+use Rattle.rht_reclaim.specs.declared.return_tables.ReturnTablesAt.TheVariants as returns
 use Rattle.rht_model.specs.declared.history.Call.TheVariants as calls
 use Rattle.rht_model.specs.declared.history.Reply.{Reply}
 use Rattle.rht_model.specs.Answers.{plain}
@@ -26,7 +35,7 @@ use Rattle.rht_move.specs.declared.work.WorkAt.TheVariants as at
 use Rattle.rht_move.specs.Work.{plan_at, after_at}
 use Rattle.rht_move.specs.WorkHeld.{held_of_work}
 use Rattle.rht_ghost.proofs.Theory.Ghosts.{Ghost}
-use Rattle.rht_ghost.proofs.Theory.Knowns.{Known, KnownMaking, MakesNothing, HasTaken, HasMade, KnownAim, NoAim, Onward, From, Beyond, KnownRehash, KnownPlace, KnownEntry, KnownWork, NoWork, Works, Rooted, Follows, Empties, LeavesBehind, Nears, Faces, InBucket, Bare, AtEntry, AtTail, Aims, Brings, TakesOut, HasBrought}
+use Rattle.rht_ghost.proofs.Theory.Knowns.{Known, KnownMaking, MakesNothing, HasPages, HasTaken, HasMade, HasBack, KnownAim, NoAim, Onward, From, Beyond, KnownRehash, KnownPlace, KnownEntry, KnownWork, NoWork, Works, Rooted, Follows, Empties, LeavesBehind, Nears, Faces, InBucket, Bare, AtEntry, AtTail, Aims, Brings, TakesOut, HasBrought, HasKept, HasLoadedWord, Asks, Compares, GivesBack, Over, InRun, AtTop, AtLeaf, ClearsLeaf, ClearsTop}
 use Rattle.rht_ghost.proofs.Theory.Knowledge.{Knowing}
 use Rattle.rht_ghost.proofs.Theory.Steps.{Holding, Step}
 use Rattle.rht_ghost.proofs.Pieces.Holdings.{bare_slot}
@@ -77,9 +86,55 @@ abbrev pub known_ending : Ending → KnownWork
 known_ending (endings.Retiring root again) = LeavesBehind root
 known_ending (endings.LettingGo outcome) = Works
 
+-- while section words are kept: of how many callers, and which word was loaded of the next one
+abbrev pub known_keeping : ℕ → KeepSectionsAt → KnownWork
+known_keeping slot (keeps.Section caller) = HasKept slot caller
+known_keeping slot (keeps.Word caller word) = HasLoadedWord slot caller word
+
+-- Of a table that is given back: its run, or to which pages its entries lead still. From the first pages of its run on, or its top page,
+-- it is no table any more.
+abbrev pub known_giving : ℕ → GiveTableAt → KnownWork
+known_giving slot gives.Shape = GivesBack slot Over
+known_giving slot (gives.Run give) = if is_first_word give then GivesBack slot (InRun give.first give.pages) else Works
+known_giving slot (gives.TopEntry shape top) = GivesBack slot (AtTop shape top)
+known_giving slot (gives.LeafEntry shape top page leaf) = GivesBack slot (AtLeaf shape top page leaf)
+known_giving slot (gives.ClearLeaf shape top page leaf below) = GivesBack slot (ClearsLeaf shape top page leaf below)
+known_giving slot (gives.GiveLeaf shape top page leaf below) = GivesBack slot (AtLeaf shape top page (leaf + 1))
+known_giving slot (gives.ClearTop shape top page) = GivesBack slot (ClearsTop shape top page)
+known_giving slot (gives.GivePage shape top page) = GivesBack slot (AtTop shape (top + 1))
+known_giving slot (gives.GiveTop shape) = GivesBack slot (AtTop shape 64)
+known_giving slot gives.FreeSlot = Works
+
+-- and of what was its own
+abbrev pub made_giving : ℕ → GiveTableAt → KnownMaking
+made_giving slot gives.Shape = MakesNothing
+made_giving slot (gives.Run give) = if is_first_word give then MakesNothing else HasBack slot (pages_of_give_run give)
+made_giving slot (gives.TopEntry shape top) = MakesNothing
+made_giving slot (gives.LeafEntry shape top page leaf) = MakesNothing
+made_giving slot (gives.ClearLeaf shape top page leaf below) = MakesNothing
+made_giving slot (gives.GiveLeaf shape top page leaf below) = HasPages (below ∷ [])
+made_giving slot (gives.ClearTop shape top page) = MakesNothing
+made_giving slot (gives.GivePage shape top page) = HasPages (page ∷ [])
+made_giving slot (gives.GiveTop shape) = MakesNothing
+made_giving slot gives.FreeSlot = HasBack slot []
+
+-- while retired tables are given back
+abbrev pub known_returning : ReturnTablesAt → KnownWork
+known_returning (returns.State slot) = Works
+known_returning (returns.KeptWord slot caller) = Asks slot caller
+known_returning (returns.SectionWord slot caller kept) = Compares slot caller kept
+known_returning (returns.Giving give) = known_giving give.slot give.at
+
+abbrev pub made_returning : ReturnTablesAt → KnownMaking
+made_returning (returns.State slot) = MakesNothing
+made_returning (returns.KeptWord slot caller) = MakesNothing
+made_returning (returns.SectionWord slot caller kept) = MakesNothing
+made_returning (returns.Giving give) = made_giving give.slot give.at
+
 -- what is known of the work in a state
 abbrev pub known_at_work : WorkAt → KnownWork
 known_at_work at.WorkLock = NoWork
+known_at_work (at.Returning returns) = known_returning returns.at
 known_at_work at.Opening = Works
 known_at_work at.CurrentTable = Works
 known_at_work (at.LastTable root seek) = Rooted root (last_aim seek.at)
@@ -115,11 +170,13 @@ known_at_work (at.Publishing rehash) = Empties (known_rehash rehash) (size_of (u
 known_at_work (at.NewFuture rehash) = LeavesBehind rehash.root
 known_at_work (at.Closing ending) = known_ending ending
 known_at_work (at.Retiring root again) = LeavesBehind root
+known_at_work (at.KeepingSections keep again) = known_keeping keep.slot keep.at
 known_at_work (at.LettingGo outcome) = Works
 
--- and of a table that is made
+-- and of a table that is made, or that was one
 abbrev pub made_at_work : WorkAt → KnownMaking
 made_at_work at.WorkLock = MakesNothing
+made_at_work (at.Returning returns) = made_returning returns.at
 made_at_work at.Opening = MakesNothing
 made_at_work at.CurrentTable = MakesNothing
 made_at_work (at.LastTable root seek) = MakesNothing
@@ -145,6 +202,7 @@ made_at_work (at.Publishing rehash) = MakesNothing
 made_at_work (at.NewFuture rehash) = MakesNothing
 made_at_work (at.Closing ending) = MakesNothing
 made_at_work (at.Retiring root again) = MakesNothing
+made_at_work (at.KeepingSections keep again) = MakesNothing
 made_at_work (at.LettingGo outcome) = MakesNothing
 
 abbrev pub known_of_work : WorkAt → Known

@@ -1,6 +1,6 @@
 -- What leads a resizing from one state to the next: an operation that leaves it with more, and a load behind
 -- which it knows more. What is held, known and told in the next state is read off that state.
-use Rattle.std.proofs.Common.{◌≡◌, ℕ, false, List, [], length, Option, Some, None, refl, sym, ◌∙◌, ap, subst, inl, inr}
+use Rattle.std.proofs.Common.{◌≡◌, ℕ, Bool, true, false, List, [], length, Option, Some, None, refl, sym, ◌∙◌, ap, subst, inl, inr}
 use Rattle.rht_words.specs.declared.env.Env.{Env}
 use Rattle.rht_words.specs.declared.op.Op.{Op}
 use Rattle.rht_words.specs.declared.machine.Next.TheVariants.{Go}
@@ -12,7 +12,7 @@ use Rattle.rht_model.specs.declared.history.Reply.{Reply}
 use Rattle.rht_model.specs.Multimap.{Multimap}
 use Rattle.rht_model.specs.Answers.{plain}
 use Rattle.rht_move.specs.declared.work.WorkAt.{WorkAt}
-use Rattle.rht_move.specs.WorkHeld.{holds_work, holds_moving, held_of_work}
+use Rattle.rht_move.specs.WorkHeld.{holds_work_lock, holds_work, holds_moving, held_of_work}
 use Rattle.rht_model.specs.Replies.{takes_out}
 use Rattle.rht_model.specs.Replies.{IsWorkReply, AreOwnersWith}
 use Rattle.rht_ghost.proofs.Theory.Ghosts.{Ghost}
@@ -83,17 +83,35 @@ module _ {env : Env} {mix : ℕ → ℕ → ℕ → ℕ} {c : ℕ} {words : List
 
   -- while it has the work alone, and while it moves entries
   module _ (all : length words ≡ words_in env.geometry) (whole : Whole env mix (mem env mix words) G) where
+    -- in its section, or out of it
+    load_alone : (section : Bool) {op : Op} (known more : KnownWork) (next : WorkAt)
+        → word_after (old_of words op) op ≡ old_of words op
+        → let h = record holds_work_lock { section = section } in
+        knowing env mix c h known (mem env mix words) G
+        → (WorkMeans env mix c (mem env mix words) G known → WorkMeans env mix c (mem env mix words) G more)
+        → held_of_work next ≡ h → known_of_work next ≡ knows_work MakesNothing more
+        → Step env mix c calls.Work words G op h (held_of_work next) (WorkNext env mix c (next, Go))
+    load_alone section {op} known more next same knows learns holds is =
+        let h = record holds_work_lock { section = section } in
+        leads next (inl (ap (λ (x : Holding). x.answer) holds)) refl
+        (holds ∙ ap (λ a. with_answer env mix h a) (sym (ap (λ (x : Holding). x.answer) holds))) is
+        (work_loads env mix c h words G all whole None MakesNothing op known more same knows learns)
+
     pub load_early : {op : Op} (known more : KnownWork) (next : WorkAt)
         → word_after (old_of words op) op ≡ old_of words op
         → knowing env mix c holds_work known (mem env mix words) G
         → (WorkMeans env mix c (mem env mix words) G known → WorkMeans env mix c (mem env mix words) G more)
         → held_of_work next ≡ holds_work → known_of_work next ≡ knows_work MakesNothing more
         → Step env mix c calls.Work words G op holds_work (held_of_work next) (WorkNext env mix c (next, Go))
-    load_early {op = op} known more next same knows learns holds is =
-        leads next (inl (ap (λ (x : Holding). x.answer) holds)) refl
-        (holds ∙ ap (λ a. with_answer env mix holds_work a) (sym (ap (λ (x : Holding). x.answer) holds))) is
-        (work_loads env mix c holds_work words G all whole None MakesNothing op known more same knows
-        learns)
+    load_early {op} = load_alone true {op = op}
+
+    pub load_outside : {op : Op} (known more : KnownWork) (next : WorkAt)
+        → word_after (old_of words op) op ≡ old_of words op
+        → knowing env mix c holds_work_lock known (mem env mix words) G
+        → (WorkMeans env mix c (mem env mix words) G known → WorkMeans env mix c (mem env mix words) G more)
+        → held_of_work next ≡ holds_work_lock → known_of_work next ≡ knows_work MakesNothing more
+        → Step env mix c calls.Work words G op holds_work_lock (held_of_work next) (WorkNext env mix c (next, Go))
+    load_outside {op} = load_alone false {op = op}
 
     pub load_moving : {op : Op} (lock : Option ℕ) (known more : KnownWork) (next : WorkAt)
         → word_after (old_of words op) op ≡ old_of words op

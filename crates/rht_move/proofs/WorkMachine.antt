@@ -1,16 +1,21 @@
 -- A resizing, operation by operation: each leads from what it knows to what it knows next.
-use Rattle.std.proofs.Common.{◌≡◌, ℕ, ◌<◌, Bool, true, false, List, length, Option, Some, None, refl, inl}
+use Rattle.std.proofs.Common.{◌≡◌, ℕ, ◌+◌, ◌<◌, Bool, true, false, List, length, nat_lt, Option, Some, None, refl, sym, subst, inl, arith}
+use Rattle.std.proofs.lemmas.Bool.{cond_both, ltb-false}
 use Rattle.rht_words.specs.declared.env.Env.{Env}
 use Rattle.rht_words.specs.declared.machine.Next.{Next}
+use Rattle.rht_words.specs.declared.geometry.Geometry.{Geometry}
 use Rattle.rht_words.specs.declared.machine.Next.TheVariants.{Go}
 use Rattle.rht_words.specs.Held as held
 use Rattle.rht_words.specs.Links.{slot_of}
 use Rattle.rht_words.specs.Shapes.{unpacked, size_of}
-use Rattle.rht_words.specs.Places.{Slot, FutureWord, words_in}
+use Rattle.rht_words.specs.Places.{Section, Slot, FutureWord, words_in}
 use Rattle.rht_words.proofs.Memory.{Memory}
 use Rattle.rht_model.specs.declared.history.Reply.{Reply}
 use Rattle.rht_model.specs.declared.history.Reply.TheVariants as replies
 use Rattle.rht_model.specs.Answers.{plain}
+use Rattle.rht_reclaim.specs.KeepSections.{KeepSectionsModel, IsKeepSectionsAtIn, IsKeepSectionsIn}
+use Rattle.rht_reclaim.specs.declared.keep_sections.KeepSectionsAt.{KeepSectionsAt}
+use Rattle.rht_reclaim.specs.declared.keep_sections.KeepSectionsAt.TheVariants as keeps
 use Rattle.rht_move.specs.declared.rehash.Rehash.{Rehash}
 use Rattle.rht_move.specs.declared.work.Outcome.{Outcome}
 use Rattle.rht_move.specs.declared.work.Outcome.TheVariants.{Moved as HasMoved}
@@ -18,16 +23,18 @@ use Rattle.rht_move.specs.declared.work.ending.Ending.{Ending}
 use Rattle.rht_move.specs.declared.work.ending.Ending.TheVariants as endings
 use Rattle.rht_move.specs.declared.work.WorkAt.{WorkAt}
 use Rattle.rht_move.specs.declared.work.WorkAt.TheVariants as at
-use Rattle.rht_move.specs.Work.{plan_at, letting_go, retiring, reply_of, IsWorkAtIn}
+use Rattle.rht_move.specs.Work.{plan_at, letting_go, retiring, keeping, kept, reply_of, IsWorkAtIn}
 use Rattle.rht_move.specs.WorkHeld.{holds_work_lock, has_moved, holds_outcome, held_of_work}
 use Rattle.rht_ghost.proofs.Theory.Ghosts.{Ghost}
 use Rattle.rht_ghost.proofs.Theory.Wholes.{Whole}
 use Rattle.rht_ghost.proofs.Theory.Knowns.{MakesNothing, NoAim, KnownPlace, Works, LeavesBehind}
-use Rattle.rht_ghost.proofs.Theory.Answering.{keeps}
+use Rattle.rht_ghost.proofs.Theory.Answering.{keeps as keeps_answer}
 use Rattle.rht_ghost.proofs.Theory.Steps.{answered-map, Holding, mem, still_has}
 use Rattle.rht_ghost.proofs.Pieces.OwnSections.{open_step, close_step}
 use Rattle.rht_ghost.proofs.Pieces.WorkSteps.{knows_work, unlock_work_step}
 use Rattle.rht_ghost.proofs.Pieces.WorkStores.{give_work_step, stop_step, publish_step, retire_step}
+use Rattle.rht_ghost.proofs.Pieces.KeepSteps.{keep_load_step, keep_store_step, settle_step}
+use Rattle.rht_move.proofs.WorkReturns.{return_step}
 use Rattle.rht_move.proofs.WorkKnowledge.{known_rehash}
 use Rattle.rht_move.proofs.WorkLeads.{moving_at, says, leads, load_moving}
 use Rattle.rht_move.proofs.WorkTables.{take_lock, root_loaded, seeking_last, count_loaded, make_due, attach_due, unmake_due}
@@ -54,18 +61,18 @@ module _ (env : Env) (mix : ℕ → ℕ → ℕ → ℕ) (c : ℕ) (low : c < en
   open_section : WorkKnows at.Opening M G → WorkStep at.Opening
   open_section known =
       leads at.CurrentTable (inl refl) refl refl refl
-      (open_step env mix c holds_work_lock (knows_work MakesNothing Works) words G all whole low known)
+      (open_step env mix c holds_work_lock (knows_work MakesNothing Works) refl words G all whole low known)
 
   close_section : (ending : Ending) → WorkKnows (at.Closing ending) M G → WorkStep (at.Closing ending)
   close_section (endings.Retiring root again) known =
       let answer = Some (plain (replies.Moved again)) in
-      leads (at.Retiring root again) (inl (keeps answer)) refl refl refl
-      (close_step env mix c (holds_outcome (HasMoved again)) (knows_work MakesNothing (LeavesBehind root)) words G all
-      whole low known)
+      leads (at.Retiring root again) (inl (keeps_answer answer)) refl refl refl
+      (close_step env mix c (holds_outcome (HasMoved again)) (knows_work MakesNothing (LeavesBehind root)) refl words G all
+      whole low refl refl known)
   close_section (endings.LettingGo outcome) known =
       let answer = Some (plain (reply_of outcome)) in
-      leads (at.LettingGo outcome) (inl (keeps answer)) refl refl refl
-      (close_step env mix c (holds_outcome outcome) (knows_work MakesNothing Works) words G all whole low known)
+      leads (at.LettingGo outcome) (inl (keeps_answer answer)) refl refl refl
+      (close_step env mix c (holds_outcome outcome) (knows_work MakesNothing Works) refl words G all whole low refl refl known)
 
   -- ---- the next bucket, or the table is empty
 
@@ -77,7 +84,7 @@ module _ (env : Env) (mix : ℕ → ℕ → ℕ → ℕ) (c : ℕ) (low : c < en
       let state = at.Unlocking rehash number (record { place = place; word = word }) true in
       let next = letting_go (HasMoved true) in
       let at_place : KnownPlace = record { number = number; place = place; word = word } in
-      leads next (inl (keeps (Some (plain (replies.Moved true))))) refl refl refl
+      leads next (inl (keeps_answer (Some (plain (replies.Moved true))))) refl refl refl
       (stop_step env mix c (held_of_work next) words G all whole (known_rehash rehash) at_place NoAim known)
   unlock rehash number place word false below known =
       let state = at.Unlocking rehash number (record { place = place; word = word }) false in
@@ -109,23 +116,56 @@ module _ (env : Env) (mix : ℕ → ℕ → ℕ → ℕ) (c : ℕ) (low : c < en
       → WorkStep (at.Retiring root again)
   retire root again known =
       let state = at.Retiring root again in
-      let next = at.LettingGo (HasMoved again) in
-      leads next (inl (keeps (Some (plain (replies.Moved again))))) refl refl refl
+      let next = keeping env.geometry root again in
+      leads next (inl (keeps_answer (Some (plain (replies.Moved again))))) refl refl refl
       (retire_step env mix c (held_of_work state) words G all whole refl root known)
+
+  -- a section word is loaded, or kept in the slot, and behind the last one the table is retired
+  keep_at : (slot : ℕ) (state : KeepSectionsAt) (again : Bool) → IsKeepSectionsAtIn env.geometry state
+      → let here = at.KeepingSections (record { geometry = env.geometry; slot = slot; at = state }) again in
+      WorkKnows here M G → WorkStep here
+  keep_at slot (keeps.Section caller) again is known =
+      let answer = Some (plain (replies.Moved again)) in
+      let word = M (Section caller) in
+      leads (at.KeepingSections (record { geometry = env.geometry; slot = slot; at = keeps.Word caller word }) again)
+      (inl (keeps_answer answer)) refl refl refl
+      (keep_load_step env mix c (holds_outcome (HasMoved again)) words G all whole slot caller known)
+  keep_at slot (keeps.Word caller word) again is known =
+      let answer = Some (plain (replies.Moved again)) in
+      let h = holds_outcome (HasMoved again) in
+      let keep : KeepSectionsModel = record { geometry = env.geometry; slot = slot; at = keeps.Word caller word } in
+      let here = at.KeepingSections keep again in
+      cond_both {A = KeepSectionsAt × Next (Unit {0})} (nat_lt (caller + 1) env.geometry.callers) _ _
+      (λ r. WorkMoved here (kept (record keep { at = r.0 }) again r.1, Go))
+      (λ t. leads (at.KeepingSections (record keep { at = keeps.Section (caller + 1) }) again) (inl (keeps_answer answer)) refl refl
+      refl (keep_store_step env mix c h words G all whole slot caller word is.caller_in refl known))
+      (λ f.
+      let below = is.caller_in in
+      let last : caller + 1 ≡ env.geometry.callers =
+      (let above = ltb-false (caller + 1) env.geometry.callers f in omega (arith, above, below)) in
+      leads (at.LettingGo (HasMoved again)) (inl (keeps_answer answer)) refl refl refl
+      (settle_step env mix c h words G all whole slot caller word is.caller_in refl known last))
+
+  keep : (m : KeepSectionsModel) (again : Bool) → IsKeepSectionsIn env.geometry m
+      → WorkKnows (at.KeepingSections m again) M G → WorkStep (at.KeepingSections m again)
+  keep m again is known =
+      subst (λ (g : Geometry). WorkStep (at.KeepingSections (record { geometry = g; slot = m.slot; at = m.at }) again))
+      (sym is.geometry_same) (keep_at m.slot m.at again is.at_in known)
 
   let_go : (outcome : Outcome) → WorkKnows (at.LettingGo outcome) M G → WorkStep (at.LettingGo outcome)
   let_go outcome known =
       let answer = plain (reply_of outcome) in
       let after : Holding = held.ended_with answer in
-      answered-map env mix (Some answer) (inl (keeps (Some answer))) (still_has refl)
+      answered-map env mix (Some answer) (inl (keeps_answer (Some answer))) (still_has refl)
       (λ M' G' w k. k)
-      (give_work_step env mix c after words G all whole (has_moved outcome) known)
+      (give_work_step env mix c after words G all whole refl (has_moved outcome) known)
 
   -- ---- all states
 
   -- each operation of a resizing leads from what it knows to what it knows next
   pub work_step : (state : WorkAt) → IsWorkAtIn env state → WorkKnows state M G → WorkStep state
   work_step at.WorkLock is known = take_lock env mix c words G all whole known
+  work_step (at.Returning returns) is known = return_step env mix c words G all whole returns is known
   work_step at.Opening is known = open_section known
   work_step at.CurrentTable is known = root_loaded env mix c words G all whole known
   work_step (at.LastTable root seek) is known =
@@ -170,4 +210,5 @@ module _ (env : Env) (mix : ℕ → ℕ → ℕ → ℕ) (c : ℕ) (low : c < en
       retire_next rehash (slot_of (M (Slot rehash.future FutureWord))) known
   work_step (at.Closing ending) is known = close_section ending known
   work_step (at.Retiring root again) is known = retire root again known
+  work_step (at.KeepingSections m again) is known = keep m again is known
   work_step (at.LettingGo outcome) is known = let_go outcome known

@@ -12,6 +12,8 @@ use Rattle.rht_nest.proofs.Places.{planned_place}
 use Rattle.rht_nest.proofs.MakesPlanned.{planned_make, planned_unmake}
 use Rattle.rht_chain.specs.LockedWalk.{IsNodeOrNone}
 use Rattle.rht_chain.proofs.PiecesPlanned.{planned_lock, planned_unlock}
+use Rattle.rht_reclaim.proofs.KeepsSections.{planned_keep_sections}
+use Rattle.rht_reclaim.proofs.ReturnsStay.{planned_return_tables}
 use Rattle.rht_move.specs.Work.{plan_at, cut_plan, IsWorkAtIn}
 use Rattle.rht_move.specs.declared.work.WorkAt.{WorkAt}
 use Rattle.rht_move.specs.declared.work.WorkAt.TheVariants as at
@@ -28,6 +30,7 @@ planned_cut g place (Some before) place_in before_in =
 pub planned_work : (env : Env) (caller : ℕ) (state : WorkAt) → caller < 16 → IsWorkAtIn env state
     → IsPlannedIn env.geometry (plan_at env caller state)
 planned_work env caller at.WorkLock few within = planned-at env.geometry _ WorkLock tt tt refl (omega arith)
+planned_work env caller (at.Returning returns) few within = planned_return_tables env.geometry returns within
 planned_work env caller at.Opening few within =
     planned_enter env.geometry caller (record { caller = caller }) (record { own = refl; within = few })
 planned_work env caller at.CurrentTable few within = planned_load env.geometry CurrentTable tt tt
@@ -71,4 +74,6 @@ planned_work env caller (at.Closing ending) few within =
     planned_leave env.geometry caller (record { caller = caller }) (record { own = refl; within = few })
 planned_work env caller (at.Retiring root again) few within =
     planned-at env.geometry _ (Slot root StateWord) (within, tt) tt refl (omega arith)
+planned_work env caller (at.KeepingSections keep again) few within =
+    planned_keep_sections env.geometry keep within
 planned_work env caller (at.LettingGo outcome) few within = planned-at env.geometry _ WorkLock tt tt refl (omega arith)

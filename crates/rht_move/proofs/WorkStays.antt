@@ -27,11 +27,15 @@ use Rattle.rht_nest.proofs.MakesStay.{make_stays, unmake_begins, unmake_stays}
 use Rattle.rht_chain.specs.Lock.{LockModel, lock_new, lock_after, IsLockIn}
 use Rattle.rht_chain.specs.LockedWalk.{IsNodeOrNone}
 use Rattle.rht_chain.proofs.PiecesStay.{LockStays, lock_stays}
+use Rattle.rht_reclaim.specs.KeepSections.{KeepSectionsModel, keep_sections_after, IsKeepSectionsIn}
+use Rattle.rht_reclaim.specs.ReturnTables.{ReturnTablesModel, return_tables_after, IsReturnTablesIn}
+use Rattle.rht_reclaim.proofs.KeepsSections.{keep_sections_stays}
+use Rattle.rht_reclaim.proofs.ReturnsStay.{return_tables_stays}
 use Rattle.rht_model.specs.declared.history.Reply.{Reply}
 use Rattle.rht_move.specs.LastTable.{LastTableModel, last_table_after}
 use Rattle.rht_move.specs.LastEntry.{LastEntryModel, last_entry_after, IsEntryIn}
 use Rattle.rht_move.specs.Choice.{choice_of}
-use Rattle.rht_move.specs.Work.{after_at, lock_seen, last_seen, begun, not_made, made, attached, unmade, future_or_idle, bucket_of_root, next_bucket, entry_passed, entry_table, locked, unlocking, entry_table_seen, with_word, entry_or_empty, walked, keyed, second_locked, cut_off, unlocked_bucket, retiring, closed, IsCountingIn, IsMakingIn, IsAttachingIn, IsRehashIn, IsBucketIn, IsEmptyingIn, IsTargetIn, IsEndingIn, IsWorkAtIn}
+use Rattle.rht_move.specs.Work.{after_at, lock_seen, returned, kept, last_seen, begun, not_made, made, attached, unmade, future_or_idle, bucket_of_root, next_bucket, entry_passed, entry_table, locked, unlocking, entry_table_seen, with_word, entry_or_empty, walked, keyed, second_locked, cut_off, unlocked_bucket, retiring, closed, IsCountingIn, IsMakingIn, IsAttachingIn, IsRehashIn, IsBucketIn, IsEmptyingIn, IsTargetIn, IsEndingIn, IsWorkAtIn}
 use Rattle.rht_move.specs.declared.last_table.Last.{Last}
 use Rattle.rht_move.specs.declared.last_entry.Entry.{Entry}
 use Rattle.rht_move.specs.declared.rehash.Rehash.{Rehash}
@@ -67,9 +71,20 @@ module _ (mix : ℕ → ℕ → ℕ → ℕ) (env : Env) where
 
   -- ---- the work lock, and a table that is due
 
-  lock_seen-in : (lock : ℕ) → IsWorkAtIn env (lock_seen lock).0
+  lock_seen-in : (lock : ℕ) → IsWorkAtIn env (lock_seen g lock).0
   lock_seen-in lock =
-      cond_both {A = WorkAt × Next Reply} (lock == 0) _ _ (λ next. IsWorkAtIn env next.0) (λ t. tt) (λ f. tt)
+      cond_both {A = WorkAt × Next Reply} (lock == 0) _ _ (λ next. IsWorkAtIn env next.0)
+      (λ t. record { geometry_same = refl; at_in = omega arith }) (λ f. tt)
+
+  returned-in : (returns : ReturnTablesModel) (next : Next (Unit {0})) → IsReturnTablesIn g returns
+      → IsWorkAtIn env (returned returns next)
+  returned-in returns Go within = within
+  returned-in returns (Done done) within = tt
+
+  kept-in : (keep : KeepSectionsModel) (again : Bool) (next : Next (Unit {0})) → IsKeepSectionsIn g keep
+      → IsWorkAtIn env (kept keep again next)
+  kept-in keep again Go within = within
+  kept-in keep again (Done done) within = tt
 
   last_seen-in : (root : ℕ) (seek : LastTableModel) (next : Next Last) → root < 8
       → LastTableStays g (seek, next) → IsWorkAtIn env (last_seen root seek next)
@@ -264,6 +279,9 @@ module _ (mix : ℕ → ℕ → ℕ → ℕ) (env : Env) where
   pub work_stays : (state : WorkAt) (word : ℕ) → IsWorkAtIn env state → IsWord word
       → IsWorkAtIn env (after_at mix env state word).0
   work_stays at.WorkLock word within told = lock_seen-in word
+  work_stays (at.Returning returns) word within told =
+      returned-in (return_tables_after returns word).0 (return_tables_after returns word).1
+      (return_tables_stays g returns word within)
   work_stays at.Opening word within told = tt
   work_stays at.CurrentTable word within told = record {
     root_in = omega arith;
@@ -333,5 +351,10 @@ module _ (mix : ℕ → ℕ → ℕ → ℕ) (env : Env) where
   work_stays (at.Publishing rehash) word within told = within
   work_stays (at.NewFuture rehash) word within told = retiring-in rehash (slot_of word) within
   work_stays (at.Closing ending) word within told = closed-in ending within
-  work_stays (at.Retiring root again) word within told = tt
+  work_stays (at.Retiring root again) word within told =
+      let some = g.within.callers_within in
+      record { geometry_same = refl; slot_in = within; at_in = omega (arith, some) }
+  work_stays (at.KeepingSections keep again) word within told =
+      kept-in (keep_sections_after keep word).0 again (keep_sections_after keep word).1
+      (keep_sections_stays g keep word within told)
   work_stays (at.LettingGo outcome) word within told = tt

@@ -34,7 +34,7 @@ use Rattle.rht_move.specs.declared.work.WorkAt.TheVariants as at
 use Rattle.rht_nest.specs.Tables.{is_nested}
 use Rattle.rht_move.specs.Choice.{chosen, choice_of}
 use Rattle.rht_move.specs.LastTable.{last_table_new, next_or_shape}
-use Rattle.rht_move.specs.Work.{plan_at, letting_go, begun, made, not_made, unmade, IsWorkAtIn}
+use Rattle.rht_move.specs.Work.{plan_at, returning, letting_go, begun, made, not_made, unmade, IsWorkAtIn}
 use Rattle.rht_move.specs.WorkHeld.{holds_work, holds_table, held_of_work}
 use Rattle.rht_ghost.proofs.Theory.Ghosts.{Ghost}
 use Rattle.rht_ghost.proofs.Theory.Wholes.{Whole}
@@ -96,7 +96,7 @@ module _ (env : Env) (mix : ℕ → ℕ → ℕ → ℕ) (c : ℕ) (words : List
   take_lock known =
       let word = old_of words (plan_at env c at.WorkLock) in
       cond_both (word == 0) _ _ (λ r. WorkMoved at.WorkLock r)
-      (λ t. leads at.Opening (inl refl) refl refl refl
+      (λ t. leads (returning env.geometry) (inl refl) refl refl refl
       (take_work_step env mix c held.holds_nothing words G all whole (eqb-true word 0 t) known))
       (λ f.
       answered-map env mix (Some (plain replies.Elsewhere)) (says replies.Elsewhere tt refl refl)

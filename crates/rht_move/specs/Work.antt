@@ -25,6 +25,8 @@ use Rattle.rht_chain.specs.Unlock.{unlock_plan, IsUnlockIn}
 use Rattle.rht_chain.specs.declared.unlock.Unlock.{Unlock}
 use Rattle.rht_model.specs.declared.history.Reply.{Reply}
 use Rattle.rht_model.specs.declared.history.Reply.TheVariants as replies
+use Rattle.rht_reclaim.specs.KeepSections.{KeepSectionsModel, keep_sections_new, keep_sections_plan, keep_sections_after, IsKeepSectionsIn}
+use Rattle.rht_reclaim.specs.ReturnTables.{ReturnTablesModel, return_tables_new, return_tables_plan, return_tables_after, IsReturnTablesIn}
 use Rattle.rht_move.specs.LastTable.{LastTableModel, last_table_new, last_table_plan, last_table_after, IsLastTableIn, IsLastIn}
 use Rattle.rht_move.specs.LastEntry.{LastEntryModel, last_entry_new, last_entry_plan, last_entry_after, IsLastEntryIn, IsEntryIn}
 use Rattle.rht_move.specs.declared.last_table.Last.{Last}
@@ -65,6 +67,7 @@ cut_plan g place (Some before) = Store (place_of g (Node before ChainLink)) (mar
 -- the state's one operation
 abbrev pub plan_at : Env → ℕ → WorkAt → Op
 plan_at env caller at.WorkLock = Exchange (place_of env.geometry WorkLock) 0 1
+plan_at env caller (at.Returning returns) = return_tables_plan returns
 plan_at env caller at.Opening = turning caller
 plan_at env caller at.CurrentTable = Load (place_of env.geometry CurrentTable)
 plan_at env caller (at.LastTable root seek) = last_table_plan seek
@@ -92,6 +95,7 @@ plan_at env caller (at.Publishing rehash) = Store (place_of env.geometry Current
 plan_at env caller (at.NewFuture rehash) = Load (place_of env.geometry (Slot rehash.future FutureWord))
 plan_at env caller (at.Closing ending) = turning caller
 plan_at env caller (at.Retiring root again) = Store (place_of env.geometry (Slot root StateWord)) 2
+plan_at env caller (at.KeepingSections keep again) = keep_sections_plan keep
 plan_at env caller (at.LettingGo outcome) = Store (place_of env.geometry WorkLock) 0
 
 abbrev pub work_plan : WorkModel → Op
@@ -99,9 +103,17 @@ work_plan m = plan_at m.env m.caller m.at
 
 -- ---- the work lock, and a table that is due
 
--- where the work lock was free it is taken, and the section opened; else another caller is at work
-abbrev pub lock_seen : ℕ → WorkAt × Next Reply
-lock_seen lock = if lock == 0 then (at.Opening, Go) else (at.WorkLock, Done replies.Elsewhere)
+-- the slots are gone through, and then the section is opened
+abbrev pub returning : Geometry → WorkAt
+returning g = at.Returning (return_tables_new g)
+
+abbrev pub returned : ReturnTablesModel → Next (Unit {0}) → WorkAt
+returned returns Go = at.Returning returns
+returned returns (Done done) = at.Opening
+
+-- where the work lock was free it is taken, and retired tables are given back; else another caller is at work
+abbrev pub lock_seen : Geometry → ℕ → WorkAt × Next Reply
+lock_seen g lock = if lock == 0 then (returning g, Go) else (at.WorkLock, Done replies.Elsewhere)
 
 -- the section is closed, and then the work lock let go of by a call that ends so
 abbrev pub letting_go : Outcome → WorkAt
@@ -252,6 +264,14 @@ abbrev pub closed : Ending → WorkAt
 closed (endings.Retiring root again) = at.Retiring root again
 closed (endings.LettingGo outcome) = at.LettingGo outcome
 
+-- behind the retiring the section words are kept in the table's slot, and then the work lock is let go of
+abbrev pub keeping : Geometry → ℕ → Bool → WorkAt
+keeping g root again = at.KeepingSections (keep_sections_new g root) again
+
+abbrev pub kept : KeepSectionsModel → Bool → Next (Unit {0}) → WorkAt
+kept keep again Go = at.KeepingSections keep again
+kept keep again (Done done) = at.LettingGo (Moved again)
+
 -- and how the call ends then
 abbrev pub outcome_of : Ending → Outcome
 outcome_of (endings.Retiring root again) = Moved again
@@ -267,7 +287,9 @@ reply_of (Moved again) = replies.Moved again
 
 -- where the worker stands after a state that found this word, and what it says
 abbrev pub after_at : (ℕ → ℕ → ℕ → ℕ) → Env → WorkAt → ℕ → WorkAt × Next Reply
-after_at mix env at.WorkLock word = lock_seen word
+after_at mix env at.WorkLock word = lock_seen env.geometry word
+after_at mix env (at.Returning returns) word =
+    (returned (return_tables_after returns word).0 (return_tables_after returns word).1, Go)
 after_at mix env at.Opening word = (at.CurrentTable, Go)
 after_at mix env at.CurrentTable word = (seeking env.geometry (table_of word), Go)
 after_at mix env (at.LastTable root seek) word =
@@ -302,7 +324,9 @@ after_at mix env (at.Unlocking rehash number unlock stop) word =
 after_at mix env (at.Publishing rehash) word = (at.NewFuture rehash, Go)
 after_at mix env (at.NewFuture rehash) word = (retiring rehash (slot_of word), Go)
 after_at mix env (at.Closing ending) word = (closed ending, Go)
-after_at mix env (at.Retiring root again) word = (at.LettingGo (Moved again), Go)
+after_at mix env (at.Retiring root again) word = (keeping env.geometry root again, Go)
+after_at mix env (at.KeepingSections keep again) word =
+    (kept (keep_sections_after keep word).0 again (keep_sections_after keep word).1, Go)
 after_at mix env (at.LettingGo outcome) word = (at.LettingGo outcome, Done (reply_of outcome))
 
 abbrev pub went_on : WorkModel → WorkAt × Next Reply → WorkModel × Next Reply
@@ -443,6 +467,7 @@ IsEndingIn (endings.LettingGo outcome) = Unit {0}
 -- all that the state names is the table's: slots, nodes and buckets; and the words that it keeps are words
 abbrev pub IsWorkAtIn : Env → WorkAt → Type 0
 IsWorkAtIn env at.WorkLock = Unit {0}
+IsWorkAtIn env (at.Returning returns) = IsReturnTablesIn env.geometry returns
 IsWorkAtIn env at.Opening = Unit {0}
 IsWorkAtIn env at.CurrentTable = Unit {0}
 IsWorkAtIn env (at.LastTable root seek) = IsSeekingIn env.geometry root seek
@@ -468,6 +493,7 @@ IsWorkAtIn env (at.Publishing rehash) = IsRehashIn rehash
 IsWorkAtIn env (at.NewFuture rehash) = IsRehashIn rehash
 IsWorkAtIn env (at.Closing ending) = IsEndingIn ending
 IsWorkAtIn env (at.Retiring root again) = root < 8
+IsWorkAtIn env (at.KeepingSections keep again) = IsKeepSectionsIn env.geometry keep
 IsWorkAtIn env (at.LettingGo outcome) = Unit {0}
 
 -- a worker of this caller in this table, all that its state names being the table's

@@ -8,6 +8,7 @@ use Rattle.rht_words.specs.declared.machine.Next.TheVariants.{Go, Done}
 use Rattle.rht_nest.specs.Tables.{pages_of_shape}
 use Rattle.rht_nest.specs.Make.{slot_of_make, pages_of_make}
 use Rattle.rht_nest.specs.Unmake.{pages_of_unmake}
+use Rattle.rht_reclaim.specs.ReturnHeld.{slot_of_returning, pages_of_returning}
 use Rattle.rht_model.specs.Answers.{Answer, plain}
 use Rattle.rht_model.specs.declared.history.Reply.{Reply}
 use Rattle.rht_model.specs.declared.history.Reply.TheVariants as replies
@@ -55,6 +56,8 @@ holds_outcome outcome = record holds_work_lock { moving = has_moved outcome; ans
 -- what it holds in a state
 abbrev pub held_of_work : WorkAt → Held Answer
 held_of_work at.WorkLock = holds_nothing
+held_of_work (at.Returning returns) =
+    record holds_work_lock { slot = slot_of_returning returns.at; pages = pages_of_returning returns.at }
 held_of_work at.Opening = holds_work_lock
 held_of_work at.CurrentTable = holds_work
 held_of_work (at.LastTable root seek) = holds_work
@@ -83,6 +86,7 @@ held_of_work (at.Publishing rehash) = holds_moving None None
 held_of_work (at.NewFuture rehash) = holds_moving None None
 held_of_work (at.Closing ending) = record (holds_outcome (outcome_of ending)) { section = true }
 held_of_work (at.Retiring root again) = holds_outcome (Moved again)
+held_of_work (at.KeepingSections keep again) = holds_outcome (Moved again)
 held_of_work (at.LettingGo outcome) = holds_outcome outcome
 
 -- and after an operation; once it has ended it holds nothing, and its answer is known

@@ -24,6 +24,7 @@ nodes_of entry = entry.node ∷ if_one entry.before
 
 abbrev pub standing_of_work : WorkAt → Standing
 standing_of_work at.WorkLock = stands_nowhere
+standing_of_work (at.Returning returns) = stands_nowhere
 standing_of_work at.Opening = stands_nowhere
 standing_of_work at.CurrentTable = stands_nowhere
 standing_of_work (at.LastTable root seek) = stands_in (root ∷ table_of_seek seek.at ∷ [])
@@ -54,4 +55,5 @@ standing_of_work (at.Publishing rehash) = stands_in (tables_of rehash [])
 standing_of_work (at.NewFuture rehash) = stands_in (rehash.future ∷ [])
 standing_of_work (at.Closing ending) = stands_nowhere
 standing_of_work (at.Retiring root again) = stands_nowhere
+standing_of_work (at.KeepingSections keep again) = stands_nowhere
 standing_of_work (at.LettingGo outcome) = stands_nowhere

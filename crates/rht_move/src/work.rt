@@ -1,5 +1,5 @@
-//! The worker, state by state: it attaches a table where one is due, and moves the current table's
-//! entries to its future one.
+//! The worker, state by state: it gives back the tables that nobody can read any more, attaches one
+//! where that is due, and moves the current table's entries to its future one.
 
 ghost use Rattle.std.specs.Prelude.{◌≡◌, ◌<◌};
 ghost use Rattle.rht_words.specs.Operations.{op_place};
@@ -11,6 +11,7 @@ pub mod attaching;
 pub mod choice;
 pub mod ending;
 pub mod moving;
+pub mod reclaiming;
 
 use crate::last_entry::{Entry, LastEntry};
 use crate::last_table::{Last, LastTable};
@@ -21,11 +22,13 @@ use crate::work::moving::{
     bucket_of_root, cut_off, entry_passed, entry_table_seen, first_entry, keyed, locked, retiring,
     second_locked, unlocked_bucket, walked,
 };
+use crate::work::reclaiming::{keeping, kept, returned, returning};
 use rht_chain::{Lock, Unlock};
 use rht_grace::{Enter, Leave};
 use rht_model::Reply;
 use rht_nest::{Make, Place, Unmake};
 use rht_policy::Mix;
+use rht_reclaim::{KeepSections, ReturnTables};
 use rht_words::{
     Env, Geometry, Next, Op, future_of, head_of, link_of, marker_of, places, slot_of, table_of,
 };
@@ -66,13 +69,18 @@ pub enum Outcome {
 }
 
 /// Where a worker stands. Each state but those that hold a piece has one operation. All but the
-/// first have the work lock: nobody else stores the current table, retires a table or moves an
-/// entry, while others bind, release and attach tables.
+/// first have the work lock: nobody else stores the current table, retires a table, gives one back
+/// that was attached, or moves an entry, while others bind, release and attach tables.
 #[derive(Clone, Copy, Debug, PartialEq, Eq)]
 pub enum WorkAt {
     /// Takes the work lock, where nobody has it. This and the states up to `RootShape` are those of
     /// `rht_deferred_worker`.
     WorkLock,
+    /// Gives back the retired tables that nobody can read any more. Others open and leave sections
+    /// meanwhile, from which they can't come to these tables.
+    Returning {
+        returns: ReturnTables,
+    },
     /// Opens the read section, by one more in its caller's section word.
     Opening,
     /// Loads which table is the current one.
@@ -207,9 +215,16 @@ pub enum WorkAt {
     Closing {
         ending: Ending,
     },
-    /// Stores that the table before is retired. Its slot and its pages stay taken.
+    /// Stores that the table before is retired. A section that was opened behind the publishing can't
+    /// come to it.
     Retiring {
         root: u32,
+        again: bool,
+    },
+    /// Keeps the section words of all callers in its slot. By these a later worker tells whether the
+    /// table can be given back. This begins its grace period, as `call_rcu` does.
+    KeepingSections {
+        keep: KeepSections,
         again: bool,
     },
     /// Lets go of the work lock.
@@ -272,6 +287,7 @@ impl<M: Mix> Work<M> {
         let geometry = self.env.geometry;
         match self.at {
             WorkAt::WorkLock => Op::exchange(places::work_lock(), 0, 1),
+            WorkAt::Returning { returns } => returns.plan(),
             WorkAt::Opening => Enter::new(self.caller).plan(),
             WorkAt::CurrentTable => Op::load(places::current_table()),
             WorkAt::LastTable { seek, .. } | WorkAt::EntryTable { seek, .. } => seek.plan(),
@@ -306,6 +322,7 @@ impl<M: Mix> Work<M> {
             WorkAt::NewFuture { rehash } => Op::load(places::future(rehash.future)),
             WorkAt::Closing { .. } => Leave::new(self.caller).plan(),
             WorkAt::Retiring { root, .. } => Op::store(places::state(root), 2),
+            WorkAt::KeepingSections { keep, .. } => keep.plan(),
             WorkAt::LettingGo { .. } => Op::store(places::work_lock(), 0),
         }
     }
@@ -330,7 +347,8 @@ fn after<M: Mix>(env: Env, at: &WorkAt, old: u64) -> (WorkAt, Next<Reply>)
 {
     let geometry = env.geometry;
     let next = match *at {
-        WorkAt::WorkLock => return lock_seen(old),
+        WorkAt::WorkLock => return lock_seen(geometry, old),
+        WorkAt::Returning { returns } => returned(returns, old),
         WorkAt::Opening => WorkAt::CurrentTable,
         WorkAt::CurrentTable => seeking(geometry, table_of(old)),
         WorkAt::LastTable { root, seek } => last_seen(root, seek, old),
@@ -417,9 +435,8 @@ fn after<M: Mix>(env: Env, at: &WorkAt, old: u64) -> (WorkAt, Next<Reply>)
         WorkAt::Publishing { rehash } => WorkAt::NewFuture { rehash },
         WorkAt::NewFuture { rehash } => retiring(rehash, slot_of(old)),
         WorkAt::Closing { ending } => closed(ending),
-        WorkAt::Retiring { again, .. } => WorkAt::LettingGo {
-            outcome: Outcome::Moved { again },
-        },
+        WorkAt::Retiring { root, again } => keeping(geometry, root, again),
+        WorkAt::KeepingSections { keep, again } => kept(keep, again, old),
         WorkAt::LettingGo { outcome } => return (*at, Next::Done(reply_of(outcome))),
     };
     (next, Next::Go)
@@ -427,11 +444,11 @@ fn after<M: Mix>(env: Env, at: &WorkAt, old: u64) -> (WorkAt, Next<Reply>)
 
 /// After the exchange of the work lock, which was this before: 0 where nobody had it.
 #[inline(always)]
-pub fn lock_seen(lock: u64) -> (WorkAt, Next<Reply>)
-    ensures { result ≡ lock_seen lock }
+pub fn lock_seen(geometry: Geometry, lock: u64) -> (WorkAt, Next<Reply>)
+    ensures { result ≡ lock_seen geometry lock }
 {
     if lock == 0 {
-        (WorkAt::Opening, Next::Go)
+        (returning(geometry), Next::Go)
     } else {
         (WorkAt::WorkLock, Next::Done(Reply::Elsewhere))
     }

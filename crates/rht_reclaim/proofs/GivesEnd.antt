@@ -2,20 +2,21 @@
 --
 -- Of each state it is said how many operations are left. There are 195 for each entry of the top page behind this one, and three for
 -- each entry of the page below that is still to come. Then there are those of this entry, and the two behind all of them.
-use Rattle.std.proofs.Common.{ℕ, ◌+◌, ◌-◌, ◌*◌, ◌/◌, ◌<◌, List, [], ◌∷◌, inl, inr, refl, ap, arith}
+use Rattle.std.proofs.Common.{◌≡◌, ℕ, ◌+◌, ◌-◌, ◌*◌, ◌/◌, ◌<◌, List, [], ◌∷◌, inl, inr, refl, sym, ap, subst, arith}
 use Rattle.std.specs.Prelude.{Option, Some, None, nat_lt}
 use Rattle.std.specs.List.{AllByRecursion}
-use Rattle.std.proofs.lemmas.Bool.{cond_both, ltb-true}
+use Rattle.std.proofs.lemmas.Bool.{cond_both, ltb-true, cases_lt}
 use Rattle.rht_words.specs.declared.geometry.Geometry.{Geometry}
 use Rattle.rht_words.specs.declared.machine.Next.{Next}
 use Rattle.rht_words.specs.Links.{page_of}
 use Rattle.rht_words.specs.Machines.{Ran, ran}
 use Rattle.rht_words.specs.Places.{PageMap, place_of}
 use Rattle.rht_arena.specs.GiveRun.{GiveRunModel, give_run_after}
+use Rattle.rht_arena.specs.PageRuns.{IsRunIn, IsRunWord}
 use Rattle.rht_nest.specs.Place.{top_page, top_entries, is_deep}
 use Rattle.rht_nest.specs.Tables.{is_nested}
 use Rattle.rht_reclaim.specs.GiveTable.{GiveTableModel, give_table_plan, give_table_plan_at, give_table_after, give_table_after_at, give_table_new, shape_seen, run_returned, next_top, next_leaf, top_seen, leaf_seen, IsGiveTableAtIn}
-use Rattle.rht_reclaim.specs.GiveTableLaws.{ReturnsSoon, ReturnsWithin, IsReturnStep, IsOfReturn}
+use Rattle.rht_reclaim.specs.GiveTableLaws.{ReturnsSoon, ReturnsWithin, IsReturnStep, IsOfReturn, IsOnPageMap}
 use Rattle.rht_reclaim.specs.declared.give_table.GiveTableAt.{GiveTableAt}
 use Rattle.rht_reclaim.specs.declared.give_table.GiveTableAt.TheVariants as at
 use Rattle.rht_nest.proofs.MakesStay.{run_of-in}
@@ -106,10 +107,28 @@ returns_soon g slot olds = record {
 
 -- ---- where it works
 
+-- a word of the page map that has bits of a run has that of a page of it
+on_map : (g : Geometry) (first pages index : ℕ) → IsRunIn g first pages → IsRunWord first pages index
+    → IsOnPageMap g (place_of g (PageMap index))
+on_map g first pages index run word = elim (cases_lt first (64 * index)) [
+  | inl low ↦ record {
+    page = 64 * index;
+    page_in = omega (arith, run.within, word.until);
+    at = ap (λ i. place_of g (PageMap i)) (let e : index ≡ 64 * index / 64 = omega arith in e);
+  }
+  | inr high ↦ record {
+    page = first;
+    page_in = omega (arith, run.some, run.within);
+    at = ap (λ i. place_of g (PageMap i)) (let e : index ≡ first / 64 = omega (arith, word.from, high) in e);
+  }
+]
+
 module _ (g : Geometry) (slot : ℕ) (slot_in : slot < 8) where
   pub of_return : (at : GiveTableAt) → IsGiveTableAtIn g at → IsOfReturn g slot (give_table_plan_at g slot at)
   of_return at.Shape here = inr refl
-  of_return (at.Run give) here = (give.index, ap (λ (h : Geometry). place_of h (PageMap give.index)) here.geometry_same)
+  of_return (at.Run give) here =
+      subst (λ (h : Geometry). IsOnPageMap g (place_of h (PageMap give.index))) (sym here.geometry_same)
+      (on_map g give.first give.pages give.index here.run here.word)
   of_return (at.TopEntry shape top) here = inl (record {
     page = top_page g shape;
     index = top;
@@ -134,7 +153,7 @@ module _ (g : Geometry) (slot : ℕ) (slot_in : slot < 8) where
       at = refl;
     }),
   )
-  of_return (at.GiveLeaf shape top page leaf below) here = (below / 64, refl)
+  of_return (at.GiveLeaf shape top page leaf below) here = record { page = below; page_in = here.below_in; at = refl }
   of_return (at.ClearTop shape top page) here = (
     refl,
     inl (record {
@@ -145,8 +164,8 @@ module _ (g : Geometry) (slot : ℕ) (slot_in : slot < 8) where
       at = refl;
     }),
   )
-  of_return (at.GivePage shape top page) here = (page / 64, refl)
-  of_return (at.GiveTop shape) here = (top_page g shape / 64, refl)
+  of_return (at.GivePage shape top page) here = record { page = page; page_in = here.page_in; at = refl }
+  of_return (at.GiveTop shape) here = record { page = top_page g shape; page_in = top_page-in g shape; at = refl }
   of_return at.FreeSlot here = (refl, inr refl)
 
   abbrev from : GiveTableAt → List ℕ → Ran (Unit {0})

@@ -12,7 +12,7 @@ use Rattle.rht_words.specs.Machines.{Performed, Ran, ran, went_on}
 use Rattle.rht_reclaim.specs.GiveTable.{GiveTableModel, give_table_plan, give_table_plan_at, give_table_after, give_table_after_at, give_table_new}
 use Rattle.rht_reclaim.specs.GiveTableLaws.{did, Joined, TableReturned, IsOfReturn}
 use Rattle.rht_reclaim.specs.ReturnTables.{ReturnTablesModel, return_tables_new, return_tables_plan, return_tables_plan_at, return_tables_after, return_tables_after_at, next_slot, next_caller, kept_seen, state_seen, given_back, IsReturnTablesAtIn}
-use Rattle.rht_reclaim.specs.ReturnLaws.{WasOutside, HasLeft, IsInside, AreOutside, IsStaying, IsGivenBack, SlotSeen, AreSlotsSeen, ReturnsTables, TablesReturnSoon, TablesReturnWithin, IsOfSlot, IsReturningStep}
+use Rattle.rht_reclaim.specs.ReturnLaws.{WasOutside, HasLeft, IsStillReading, AreOutside, IsStaying, SlotReturned, SlotSeen, AreSlotsSeen, ReturnsTables, TablesReturnSoon, TablesReturnWithin, IsReturningOp, IsReturningStep}
 use Rattle.rht_reclaim.specs.declared.give_table.GiveTableAt.{GiveTableAt}
 use Rattle.rht_reclaim.specs.declared.give_table.GiveTableAt.TheVariants as gives
 use Rattle.rht_reclaim.specs.declared.return_tables.ReturnTablesAt.{ReturnTablesAt}
@@ -178,7 +178,7 @@ module _ (g : Geometry) where
     record StaysFrom (caller left : ℕ) (steps : List Performed) : Type 0 where
       before : ℕ
       low : before < left
-      are : Joined (AreOutside g slot caller before) (IsInside g slot (before + caller)) steps
+      are : Joined (AreOutside g slot caller before) (IsStillReading g slot (before + caller)) steps
 
     -- none of them is, or one is
     abbrev Asked : ℕ → ℕ → List Performed → Type 0
@@ -203,7 +203,7 @@ module _ (g : Geometry) where
               are = refl;
             };
             is_rest =
-                subst (λ c. IsInside g slot c stays.are.rest)
+                subst (λ c. IsStillReading g slot c stays.are.rest)
                 (later_caller stays.before caller) stays.are.is_rest;
             are = ap (λ l. now ++ l) stays.are.are ∙ sym (append_assoc now stays.are.first stays.are.rest);
           };
@@ -283,7 +283,7 @@ module _ (g : Geometry) where
                   first = [];
                   rest = load ∷ part;
                   is_first = refl;
-                  is_rest = subst (λ c. IsInside g slot c (load ∷ part)) (sym (from_none caller)) (record {
+                  is_rest = subst (λ c. IsStillReading g slot c (load ∷ part)) (sym (from_none caller)) (record {
                     kept = kept;
                     odd = odd;
                     are =
@@ -331,7 +331,7 @@ module _ (g : Geometry) where
     -- ---- a slot
 
     all_asked : (n : ℕ) → n ≡ g.callers → (olds : List ℕ) → IsEnded (from (at.KeptWord slot 0) olds)
-        → ComesTo (λ part. IsStaying g slot part ⊎ IsGivenBack g slot part) (from (at.KeptWord slot 0) olds).steps
+        → ComesTo (λ part. IsStaying g slot part ⊎ SlotReturned g slot part) (from (at.KeptWord slot 0) olds).steps
     all_asked zero all olds done = let some = g.within.callers_within in absurd (omega (arith, some, all))
     all_asked (suc left) all olds done =
         let steps = asked left 0 (omega (arith, all)) olds done in
@@ -344,7 +344,7 @@ module _ (g : Geometry) where
         }
       where
         asked_rightly : (left : ℕ) → suc left ≡ g.callers → (part : List Performed) → Asked 0 (suc left) part
-            → IsStaying g slot part ⊎ IsGivenBack g slot part
+            → IsStaying g slot part ⊎ SlotReturned g slot part
         asked_rightly left all part (inl stays) =
             let low = stays.low in
             inl (record {
@@ -355,7 +355,7 @@ module _ (g : Geometry) where
                 rest = stays.are.rest;
                 is_first = stays.are.is_first;
                 is_rest =
-                    subst (λ c. IsInside g slot c stays.are.rest) (no_caller stays.before)
+                    subst (λ c. IsStillReading g slot c stays.are.rest) (no_caller stays.before)
                     stays.are.is_rest;
                 are = stays.are.are;
               };
@@ -408,7 +408,7 @@ module _ (g : Geometry) where
         seen_retired state retired olds ended =
             let all = all_asked g.callers refl olds ended in
             joined state _ (comes_with (slot + 1) count (by (at.State slot) state ∷ [])
-            (λ part. IsStaying g slot part ⊎ IsGivenBack g slot part) (SlotSeen g slot)
+            (λ part. IsStaying g slot part ⊎ SlotReturned g slot part) (SlotSeen g slot)
             (from (at.KeptWord slot 0) olds).steps
             (λ part done. record { state = state; behind = part; is_done = inr (retired, done); are = refl }) all)
 
@@ -505,7 +505,7 @@ tables_return_soon g olds =
 -- ---- where it works
 
 module _ (g : Geometry) where
-  of_slot-at : (at : ReturnTablesAt) → IsReturnTablesAtIn g at → IsOfSlot g (return_tables_plan_at g at)
+  of_slot-at : (at : ReturnTablesAt) → IsReturnTablesAtIn g at → IsReturningOp g (return_tables_plan_at g at)
   of_slot-at (at.State slot) here =
       let some = g.within.callers_within in
       record { slot = slot; caller = 0; slot_in = here; caller_in = omega (arith, some); either = inl refl }

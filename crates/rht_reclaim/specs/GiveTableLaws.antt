@@ -196,6 +196,12 @@ pub record IsOnEntry (g : Geometry) (place : ℕ) : Type 0 where
   pub index_in : index < 64
   pub at : place ≡ entry_at g page index
 
+-- the operation is on the word of the page map that has the bit of a page that there is
+pub record IsOnPageMap (g : Geometry) (place : ℕ) : Type 0 where
+  pub page : ℕ
+  pub page_in : page < g.pages
+  pub at : place ≡ place_of g (PageMap (page / 64))
+
 -- it loads an entry or stores 0 there, sets bits in a word of the page map, loads the slot's shape, or stores 0 in its state
 abbrev pub IsOfReturn : Geometry → ℕ → Op → Type 0
 IsOfReturn g slot (Load place) = IsOnEntry g place ⊎ (place ≡ place_of g (Slot slot ShapeWord))
@@ -205,7 +211,7 @@ IsOfReturn g slot (Exchange place before after) = ⊥
 IsOfReturn g slot (Add place by) = ⊥
 IsOfReturn g slot (Sub place by) = ⊥
 IsOfReturn g slot (And place mask) = ⊥
-IsOfReturn g slot (Or place mask) = (index : ℕ) × (place ≡ place_of g (PageMap index))
+IsOfReturn g slot (Or place mask) = IsOnPageMap g place
 
 pub record IsReturnStep (g : Geometry) (slot : ℕ) (step : Performed) : Type 0 where
   pub of_return : IsOfReturn g slot step.op

@@ -4,6 +4,8 @@ pub mod GiveTable
 pub mod KeepSections
 -- giving back all those over which no section is open any more
 pub mod ReturnTables
+-- and what that holds in each state
+pub mod ReturnHeld
 -- what the other machines rely on that give a table back
 pub mod GiveTableLaws
 -- and those that keep section words

@@ -31,7 +31,7 @@ pub record HasLeft (g : Geometry) (slot caller : ℕ) (steps : List Performed) :
   pub are : steps ≡ did (kept_load g slot caller) kept ∷ did (section_load g caller) now ∷ []
 
 -- an odd word was kept, and its section word is still that one
-pub record IsInside (g : Geometry) (slot caller : ℕ) (steps : List Performed) : Type 0 where
+pub record IsStillReading (g : Geometry) (slot caller : ℕ) (steps : List Performed) : Type 0 where
   pub kept : ℕ
   pub odd : kept % 2 ≡ 1
   pub are : steps ≡ did (kept_load g slot caller) kept ∷ did (section_load g caller) kept ∷ []
@@ -49,16 +49,16 @@ AreOutside g slot caller (suc count) steps =
 pub record IsStaying (g : Geometry) (slot : ℕ) (steps : List Performed) : Type 0 where
   pub caller : ℕ
   pub there : caller < g.callers
-  pub are : Joined (AreOutside g slot 0 caller) (IsInside g slot caller) steps
+  pub are : Joined (AreOutside g slot 0 caller) (IsStillReading g slot caller) steps
 
 -- the table is given back: each caller was found outside before
-abbrev pub IsGivenBack : Geometry → ℕ → List Performed → Type 0
-IsGivenBack g slot steps = Joined (AreOutside g slot 0 g.callers) (TableReturned g slot) steps
+abbrev pub SlotReturned : Geometry → ℕ → List Performed → Type 0
+SlotReturned g slot steps = Joined (AreOutside g slot 0 g.callers) (TableReturned g slot) steps
 
 -- what is done behind the load of the slot's state, which was this
 abbrev pub IsDoneWith : Geometry → ℕ → ℕ → List Performed → Type 0
 IsDoneWith g slot state steps =
-    ((state ≢ 2) × IsNothing steps) ⊎ ((state ≡ 2) × (IsStaying g slot steps ⊎ IsGivenBack g slot steps))
+    ((state ≢ 2) × IsNothing steps) ⊎ ((state ≡ 2) × (IsStaying g slot steps ⊎ SlotReturned g slot steps))
 
 pub record SlotSeen (g : Geometry) (slot : ℕ) (steps : List Performed) : Type 0 where
   pub state : ℕ
@@ -87,7 +87,7 @@ abbrev pub TablesReturnSoon : Type 0
 TablesReturnSoon = (g : Geometry) (olds : List ℕ) → EndsWithin (return_tables_bound g) olds (returning_ran g olds)
 
 -- it loads the state of a slot, a word that was kept there, or a section word; or it is of the giving back of the slot's table
-pub record IsOfSlot (g : Geometry) (op : Op) : Type 0 where
+pub record IsReturningOp (g : Geometry) (op : Op) : Type 0 where
   pub slot : ℕ
   pub caller : ℕ
   pub slot_in : slot < 8
@@ -95,7 +95,7 @@ pub record IsOfSlot (g : Geometry) (op : Op) : Type 0 where
   pub either : (op ≡ state_load g slot) ⊎ (op ≡ kept_load g slot caller) ⊎ (op ≡ section_load g caller) ⊎ IsOfReturn g slot op
 
 pub record IsReturningStep (g : Geometry) (step : Performed) : Type 0 where
-  pub of_slot : IsOfSlot g step.op
+  pub of_slot : IsReturningOp g step.op
   pub planned : IsPlannedIn g step.op
 
 abbrev pub TablesReturnWithin : Type 0

@@ -76,7 +76,7 @@ pub enum GiveTableAt {
 
 /// Gives a retired table back: whoever does so has the work lock, and each section has been left that
 /// was open when the table was retired. The kernel's counterpart is `bucket_table_free`, with
-/// `nested_bucket_table_free`. No caller makes this call yet.
+/// `nested_bucket_table_free`.
 #[derive(Clone, Copy, Debug, PartialEq, Eq)]
 pub struct GiveTable {
     geometry: Geometry,

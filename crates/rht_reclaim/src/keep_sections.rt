@@ -20,8 +20,7 @@ pub enum KeepSectionsAt {
 
 /// Loads the section word of each caller in order and stores it in the slot's word for that caller. From
 /// these words it is told later whether each section has been left that was open when the table was
-/// retired. The kernel's counterpart is the beginning of a grace period, by `call_rcu`. No caller makes
-/// this call yet.
+/// retired. The kernel's counterpart is the beginning of a grace period, by `call_rcu`.
 #[derive(Clone, Copy, Debug, PartialEq, Eq)]
 pub struct KeepSections {
     geometry: Geometry,

@@ -32,8 +32,7 @@ pub enum ReturnTablesAt {
 
 /// Goes through all slots and gives back each retired table, unless it finds a section open that was so
 /// when the table was retired. It waits for nobody: such a table stays for a later call. Whoever does so
-/// has the work lock. The kernel's counterpart is what `call_rcu` does behind a grace period. No caller
-/// makes this call yet.
+/// has the work lock. The kernel's counterpart is what `call_rcu` does behind a grace period.
 #[derive(Clone, Copy, Debug, PartialEq, Eq)]
 pub struct ReturnTables {
     geometry: Geometry,

@@ -285,7 +285,7 @@ module _ (env : Env) (mix : ℕ → ℕ → ℕ → ℕ) (c : ℕ) (port : ℕ) 
     all_step low at.Opening is known =
         answered-map env mix None (inl refl) (still_has refl)
         (λ M' G' w k. record { knowing = k; fits = (tt, known.fits) })
-        (open_step env mix c held.holds_nothing known_nothing words G all whole low known.knowing)
+        (open_step env mix c held.holds_nothing known_nothing refl words G all whole low known.knowing)
     all_step low (at.Seeking seek) is known =
         let none = known.fits.1 in
         seek_next seek (seek_after mix port seek (old_of words (seek_plan seek))) none
@@ -309,4 +309,4 @@ module _ (env : Env) (mix : ℕ → ℕ → ℕ → ℕ) (c : ℕ) (port : ℕ) 
         let answer = Some (listing_of room.items) in
         let told : Holding = held.ended_with (listing_of room.items) in
         answered-map env mix answer (inl (keeps answer)) (still_has refl) (λ M' G' w k. k)
-        (close_step env mix c told known_nothing words G all whole low known.knowing)
+        (close_step env mix c told known_nothing refl words G all whole low refl refl known.knowing)

@@ -312,7 +312,7 @@ module _ (env : Env) (mix : ℕ → ℕ → ℕ → ℕ) (c : ℕ) (port owner n
   opening_step n known =
       answered-map env mix None (inl refl) (still_has refl)
       (λ M' G' w k. record { knowing = k; fits = tt })
-      (open_step env mix c (holds_outside n None) (knows_of port owner new n Unlocked) words G all whole low
+      (open_step env mix c (holds_outside n None) (knows_of port owner new n Unlocked) refl words G all whole low
       known.knowing)
 
   -- and closed with it, where it is given back next
@@ -321,7 +321,7 @@ module _ (env : Env) (mix : ℕ → ℕ → ℕ → ℕ) (c : ℕ) (port owner n
       let answer = Some (plain Absent) in
       answered-map env mix answer (inl (keeps answer)) (still_has refl)
       (λ M' G' w k. record { knowing = k; fits = tt })
-      (close_step env mix c (holds_outside n answer) (knows_of port owner new n Unlocked) words G all whole low
+      (close_step env mix c (holds_outside n answer) (knows_of port owner new n Unlocked) refl words G all whole low refl refl
       known.knowing)
 
   -- or with the old one taken out
@@ -330,7 +330,7 @@ module _ (env : Env) (mix : ℕ → ℕ → ℕ → ℕ) (c : ℕ) (port owner n
   rebound_step removed known =
       let told : Holding = held.ended_with (plain Rebound) in
       answered-map env mix told.answer (inl (keeps told.answer)) (still_has refl) (λ M' G' w k. k)
-      (close_step env mix c told (known_removed (Some removed)) words G all whole low known.knowing)
+      (close_step env mix c told (known_removed (Some removed)) refl words G all whole low refl refl known.knowing)
 
   -- ---- all states
 

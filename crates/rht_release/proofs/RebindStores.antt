@@ -115,7 +115,7 @@ module _ (env : Env) (mix : ℕ → ℕ → ℕ → ℕ) (c : ℕ) (port owner n
         whole.owned.member j m (subst (In m) (sym s.split) (in-middle m front rear))
 
     -- the way to the bucket, and that no entry of its own is on its way
-    table : IsAtHome env mix G port found.table (Some found.shape) place
+    table : IsAtHome env mix c G port found.table (Some found.shape) place
     table = k.means.table
 
     none : MovesNone env mix G c
@@ -132,7 +132,7 @@ module _ (env : Env) (mix : ℕ → ℕ → ℕ → ℕ) (c : ℕ) (port owner n
           bound_to = bound;
           moves_none = none;
           not_out = stays_in env mix M G whole c port
-              table.passing.at.table j m [] table.passing.passed (at-there env mix whole.tables found.table table.passing.at) table.here
+              table.passing.at.table j m [] table.passing.passed (at-there table.passing.at) table.here
               lock.holder none bound first;
         }
 
@@ -275,7 +275,7 @@ module _ (env : Env) (mix : ℕ → ℕ → ℕ → ℕ) (c : ℕ) (port owner n
     taken_out : HasTakenOut env mix c G' m
     taken_out = record { among = among; taken = taken_then c m n (First j) G.node taken_with }
 
-    only : HasOnly env mix c G' None (lock_left place before) None false None [] false
+    only : HasOnly env mix c G' None (lock_left place before) None false None [] false true
     only =
         let holder =
         holder_left env mix place word (link_of n) before c G lock change (front ++ n ∷ rear) refl refl in
@@ -289,6 +289,7 @@ module _ (env : Env) (mix : ℕ → ℕ → ℕ → ℕ) (c : ℕ) (port owner n
           slots = left.slots;
           pages_in = left.pages_in;
           works = left.works;
+          reads = left.reads;
         }
 
     still_locked : (node : ℕ) → before ≡ Some node → HoldsLock env mix c G' place word

@@ -21,7 +21,7 @@ use Rattle.rht_release.specs.declared.release.ReleaseAt.{ReleaseAt}
 use Rattle.rht_release.specs.declared.release.ReleaseAt.TheVariants as at
 use Rattle.rht_ghost.proofs.Pieces.Locates.{IsThereFor}
 use Rattle.rht_ghost.proofs.Theory.Ghosts.{Ghost}
-use Rattle.rht_ghost.proofs.Theory.Knowns.{KnownBucket, Locks, TakenOut, LocksTakenOut, KnownList, AtNode, Differing, Matching, CutsOut, Leads, LeadsTo, Promotes, Known}
+use Rattle.rht_ghost.proofs.Theory.Knowns.{KnownBucket, Nowhere, Locks, TakenOut, LocksTakenOut, KnownList, AtNode, Differing, Matching, CutsOut, Leads, LeadsTo, Promotes, Known}
 use Rattle.rht_ghost.proofs.Theory.Knowledge.{plainly, Knowing, ListMeans}
 use Rattle.rht_ghost.proofs.Theory.Steps.{Holding, mem, StepWhere}
 use Rattle.rht_ghost.proofs.Pieces.Relinks.{relinking, unstored}
@@ -42,6 +42,11 @@ known_unlocking unlock (Some node) = LocksTakenOut unlock.place unlock.word node
 abbrev pub known_removed : Option ℕ → Known
 known_removed None = known_nothing
 known_removed (Some node) = here (TakenOut node)
+
+-- nothing of a table
+pub removed_nowhere : (removed : Option ℕ) → (known_removed removed).table ≡ Nowhere
+removed_nowhere None = refl
+removed_nowhere (Some node) = refl
 
 -- whoever knows so knows what a caller knows in no call
 pub nothing_known : (env : Env) (mix : ℕ → ℕ → ℕ → ℕ) (c : ℕ) (h : Holding) (removed : Option ℕ)

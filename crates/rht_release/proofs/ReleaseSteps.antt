@@ -38,7 +38,7 @@ use Rattle.rht_ghost.proofs.Pieces.Rebounds.{found_kept}
 use Rattle.rht_ghost.proofs.Pieces.Relinks.{relinking_so}
 use Rattle.rht_release.proofs.ReleaseStores.{holds_left}
 use Rattle.rht_release.proofs.ReleaseStores as stores
-use Rattle.rht_release.proofs.ReleaseKnowledge.{known_removed, led_to, behind_node, relinks, begins_held, list_more, unlinking_knows, promoting_knows}
+use Rattle.rht_release.proofs.ReleaseKnowledge.{known_removed, removed_nowhere, led_to, behind_node, relinks, begins_held, list_more, unlinking_knows, promoting_knows}
 use Rattle.rht_release.proofs.ReleaseLists.{seeking, owner_step, list_step, behind_step, cut_step}
 use Rattle.rht_release.proofs.ReleaseKnowledge as releases
 
@@ -251,6 +251,7 @@ module _ (env : Env) (mix : ℕ → ℕ → ℕ → ℕ) (c : ℕ) (port owner :
           slots = k.only.slots;
           pages_in = k.only.pages_in;
           works = k.only.works;
+          reads = k.only.reads;
         }) tt tt (record { among = k.means.bucket.among; taken = k.means.bucket.taken });
         fits = tt;
       }))
@@ -278,7 +279,7 @@ module _ (env : Env) (mix : ℕ → ℕ → ℕ → ℕ) (c : ℕ) (port owner :
   opening_step known =
       answered-map env mix None (inl refl) (still_has refl)
       (λ M' G' w k. record { knowing = k; fits = tt })
-      (open_step env mix c held.holds_nothing known_nothing words G all whole low known.knowing)
+      (open_step env mix c held.holds_nothing known_nothing refl words G all whole low known.knowing)
 
   -- while it is closed the release knows which node it has taken out, where it has
   closing_step : (reply : Reply) (removed : Option ℕ) → ReleaseKnows (at.Closing reply removed) M G
@@ -286,7 +287,7 @@ module _ (env : Env) (mix : ℕ → ℕ → ℕ → ℕ) (c : ℕ) (port owner :
   closing_step reply removed known =
       let told : Holding = held.ended_with (plain reply) in
       answered-map env mix told.answer (inl (keeps told.answer)) (still_has refl) (λ M' G' w k. k)
-      (close_step env mix c told (known_removed removed) words G all whole low known.knowing)
+      (close_step env mix c told (known_removed removed) (removed_nowhere removed) words G all whole low refl refl known.knowing)
 
   -- ---- all states
 

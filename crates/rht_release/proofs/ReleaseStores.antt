@@ -123,7 +123,7 @@ module _ (env : Env) (mix : ℕ → ℕ → ℕ → ℕ) (c : ℕ) (port owner :
     record TakesOut (found : FoundPort) (op : Op) (node : ℕ) (front rear : List ℕ) (change : Change)
         (lock : Option ℕ)
         (known : KnownBucket) : Type 0 where
-      only : HasOnly env mix c G None (Some found.bucket.place) None false None [] false
+      only : HasOnly env mix c G None (Some found.bucket.place) None false None [] false true
       there : place_at env mix (word_index env mix found.bucket.place) ≡ found.bucket.place
       behind_maps : nodes_at env.geometry ≤ op_place op
       bound_to : G.bound port ≡ front ++ node ∷ rear
@@ -235,6 +235,7 @@ module _ (env : Env) (mix : ℕ → ℕ → ℕ → ℕ) (c : ℕ) (port owner :
             slots = only.slots;
             pages_in = only.pages_in;
             works = only.works;
+            reads = only.reads;
           }) tt tt (takes.means (record {
             among = takes.among;
             taken = taken_then c node x x_owner G.node takes.with_other;
@@ -244,7 +245,7 @@ module _ (env : Env) (mix : ℕ → ℕ → ℕ → ℕ) (c : ℕ) (port owner :
     -- The port's first node isn't on its way out of any bucket, where it was found in the bucket to which the caller has come.
     found_stays : (found : FoundPort) (behind : List ℕ)
         → (is : IsFound env mix c M G found.bucket.place found.bucket.word port found.node found.before)
-        → IsAtHome env mix G port found.table (Some found.shape) found.bucket.place
+        → IsAtHome env mix c G port found.table (Some found.shape) found.bucket.place
         → MovesNone env mix G c → G.bound port ≡ found.node ∷ behind
         → (i : ℕ) → (G.bucket i).out ≢ Some found.node
     found_stays found behind is at none bound =
@@ -253,7 +254,7 @@ module _ (env : Env) (mix : ℕ → ℕ → ℕ → ℕ) (c : ℕ) (port owner :
         let s = is.standing.stands in
         let first = whole.owned.member j m (subst (In m) (sym s.split) (in-middle m s.front s.rear)) in
         stays_in env mix M G whole c port at.passing.at.table j m behind at.passing.passed
-        (at-there env mix whole.tables found.table at.passing.at) at.here
+        (at-there at.passing.at) at.here
         is.standing.lock.holder none bound first
 
     -- ---- a node behind the first one is cut out of the list
@@ -372,7 +373,7 @@ module _ (env : Env) (mix : ℕ → ℕ → ℕ → ℕ) (c : ℕ) (port owner :
 
     -- The port's first node has the owner, and others are behind it, which are then the port's alone.
     record TakesFirst (found : FoundPort) (link : ℕ) (rear : List ℕ) (change : Change) : Type 0 where
-      only : HasOnly env mix c G None (Some found.bucket.place) None false None [] false
+      only : HasOnly env mix c G None (Some found.bucket.place) None false None [] false true
       is : IsFound env mix c M G found.bucket.place found.bucket.word port found.node found.before
       bound_to : G.bound port ≡ found.node ∷ rear
       owner_is : owner_of (M (Node found.node OwnerWord)) ≡ owner
@@ -429,7 +430,7 @@ module _ (env : Env) (mix : ℕ → ℕ → ℕ → ℕ) (c : ℕ) (port owner :
     -- what the moves of such a store ask
     found_in : (found : FoundPort) (link : ℕ)
         (is : IsFound env mix c M G found.bucket.place found.bucket.word port found.node found.before)
-        (behind : List ℕ) → IsAtHome env mix G port found.table (Some found.shape) found.bucket.place
+        (behind : List ℕ) → IsAtHome env mix c G port found.table (Some found.shape) found.bucket.place
         → MovesNone env mix G c → G.bound port ≡ found.node ∷ behind
         → let s = is.standing.stands in
         IsFoundIn env mix c port (word_index env mix found.bucket.place) found.node s.front s.rear found.before M

@@ -275,7 +275,11 @@ module _ (env : Env) (mix : ℕ → ℕ → ℕ → ℕ) (c : ℕ) (call : Call)
     seek_step_at at.CurrentTable is known =
         let next = locating env.geometry (table_of (M CurrentTable)) in
         reads env mix whole refl refl (inl refl)
-        (record { knowing = plainly env mix known.knowing.only known.knowing.means.node (first_passed env mix c (at_lock None) own Unlocked words G whole port) tt; fits = tt })
+        (record {
+          knowing = plainly env mix known.knowing.only known.knowing.means.node
+              (first_passed env mix c (at_lock None) own Unlocked words G whole known.knowing.only.reads port) tt;
+          fits = tt;
+        })
     seek_step_at (at.Locating locate) is known =
         let h = held_of_seek hn absent (at.Locating locate) in
         found_place locate (locate_after mix port locate (old_of words (locate_plan locate)))

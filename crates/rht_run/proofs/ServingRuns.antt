@@ -1,5 +1,6 @@
 -- What is so of a run that serves commands of its table's callers, by the laws of every run: a history tells of it, each call has its cause,
--- and where the table is roomy no command is refused. No case is taken, neither of the hash nor of a call.
+-- nothing is given back that an open section could reach, and where the table is roomy no command is refused. No case is taken, neither
+-- of the hash nor of a call.
 use Rattle.std.proofs.Common.{ℕ, Bool, List, sym, ◌∙◌, ap, subst}
 use Rattle.rht_words.specs.declared.config.Config.{Config}
 use Rattle.rht_policy.specs.Mix.{mix_named}
@@ -12,6 +13,7 @@ use Rattle.rht_core.proofs.Finding.LookupLaws.{finds_what_stays}
 use Rattle.rht_core.proofs.Histories.NeverRefused.{roomy_takes_all, one_worker_as_model}
 use Rattle.rht_core.proofs.Histories.ToldHistories.{told}
 use Rattle.rht_core.proofs.Reasons.CausesInRuns.{causes}
+use Rattle.rht_core.proofs.Returning.SafeInRuns.{safe}
 use Rattle.rht_core.proofs.Tracing.TracesInRuns.{remembers}
 use Rattle.rht_run.specs.ServedRuns.{tag_of, HasRun}
 
@@ -34,6 +36,7 @@ HasRun-served config auto commands endings closed served =
         causes = causes M mix served.env served.events c admitted;
       };
       found = λ c. finds_what_stays M mix served.env served.events c admitted;
+      safe = safe M mix served.env served.events admitted;
       roomy = roomy_takes_all M mix config auto commands endings closed served;
       small = one_worker_as_model M mix config auto commands endings closed served;
     }

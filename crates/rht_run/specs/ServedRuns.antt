@@ -17,6 +17,7 @@ use Rattle.rht_model.specs.Endings.{Ending}
 use Rattle.rht_core.specs.declared.event.Event.{Event}
 use Rattle.rht_core.specs.Causes.{HasCause}
 use Rattle.rht_core.specs.Lookups.{IsFoundThroughout}
+use Rattle.rht_core.specs.Reach.{IsSafeRun}
 use Rattle.rht_core.specs.NeverRefused.{IsRoomyFor, AreAllTaken, IsSmallFor, AreAsModel}
 use Rattle.rht_core.specs.Serving.{calls_of, IsServedRun}
 use Rattle.rht_core.specs.ToldHistories.{endings_by, TellsOf}
@@ -53,6 +54,8 @@ pub record HasRun (config : Config) (auto : Bool) (commands : List (ℕ × Call)
   pub found : (caller : ℕ)
       → AllByRecursion (IsFoundThroughout (tag_of config.hash) (mix_named config) served.env served.events)
       ((traced_of {M = tag_of config.hash} (mix_named config) served.env served.events).traces caller).past
+  -- no node, page or slot was given back in this run while a caller in its read section could reach it
+  pub safe : IsSafeRun (tag_of config.hash) (mix_named config) served.env served.events
   -- Where the table is roomy for the commands none about bindings is refused, no walk from the first bucket on has to begin anew, and the
   -- size that was closed is the one with which the table began.
   pub roomy : IsRoomyFor config commands → AreAllTaken config commands endings closed

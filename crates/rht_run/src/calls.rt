@@ -239,9 +239,10 @@ impl<M: Mix> Table<M> {
         self.walked(pass, from, limit)
     }
 
-    /// Attaches a table where one is due, and moves the current table's entries into its future one,
-    /// where it has one. It waits for the locks of buckets. The kernel's counterpart is
-    /// `rht_deferred_worker`.
+    /// Gives back each retired table over which no read section is open any more. Then it attaches a
+    /// table where one is due, and moves the current table's entries into its future one, where it has
+    /// one. It waits for the locks of buckets, and for no section. The kernel's counterparts are
+    /// `rht_deferred_worker`, and of the giving back what `call_rcu` does behind a grace period.
     ///
     /// `Elsewhere` comes where it found the work lock taken: another caller is at it, for which this one
     /// doesn't wait. Otherwise it chose by the last table's shape and by the count what was due. `Idle`

@@ -1,9 +1,11 @@
-//! A resizing, in straight code: from the work lock to the reply. What is seldom leaves by calls out of
-//! line: a table is attached there, and from a nested table on the machine runs as a whole.
+//! A resizing, in straight code: from the work lock to the reply. Retired tables are given back first. What
+//! is seldom leaves by calls out of line: a table is attached there, and from a nested table on the machine
+//! runs as a whole.
 
 ghost use Rattle.std.specs.Prelude.{◌≡◌};
 ghost use Rattle.rht_model.specs.declared.history.Call.TheVariants.{Work as WorkCall};
-ghost use Rattle.rht_move.specs.Work.{bucket_of_root, letting_go, not_made, reply_of};
+ghost use Rattle.rht_move.specs.Work.{bucket_of_root, keeping, letting_go, not_made, reply_of, returning};
+ghost use Rattle.rht_move.specs.declared.work.Outcome.TheVariants.{Moved};
 ghost use Rattle.rht_move.specs.declared.work.WorkAt.TheVariants as works;
 ghost use Rattle.rht_move.specs.declared.work.ending.Ending.TheVariants as endings;
 ghost use Rattle.rht_nest.specs.Unmake.{unmake_new};
@@ -26,6 +28,7 @@ use rht_move::work::{Due, Outcome, Wanted, WorkAt, reply_of};
 use rht_move::{Last, Rehash, Work};
 use rht_nest::{Make, Unmake, is_nested};
 use rht_policy::Mix;
+use rht_reclaim::{KeepSections, ReturnTables};
 use rht_words::{Env, Next, places, slot_of, table_of};
 use std::sync::Wait;
 
@@ -54,17 +57,19 @@ impl<M: Mix> Table<M> {
         Reply::Elsewhere
     }
 
-    /// Chooses by the last table's shape and by the count of ports what is due, and does it.
+    /// Gives back the retired tables that nobody can read any more. Then chooses by the last table's shape
+    /// and by the count of ports what is due, and does it.
     fn resize<R: Wait, K: Ride>(
         &self,
         rt: &R,
         seat: &mut Seat<(), SeatView<M>>,
         caller: u32,
     ) -> Reply
-        requires { IsRiding M.mix_of self.now K.riding (work_at self.now.env caller works.Opening) seat.old }
+        requires { IsRiding M.mix_of self.now K.riding (work_at self.now.env caller (returning self.now.env.geometry)) seat.old }
         ensures { HasEnded M.mix_of self.now K.riding result seat.new }
     {
         let env = self.env;
+        self.return_tables::<R, K>(rt, seat, caller);
         self.working::<K>(seat, env, caller, WorkAt::Opening);
         let root = table_of(self.working::<K>(seat, env, caller, WorkAt::CurrentTable));
         let frame = WorkSeeking { env, caller, root };
@@ -80,6 +85,26 @@ impl<M: Mix> Table<M> {
             Choice::Later => self.move_table::<R, K>(rt, seat, caller, root, Due::Later),
             Choice::Nothing => self.move_table::<R, K>(rt, seat, caller, root, Due::Nothing),
         }
+    }
+
+    /// Goes through all slots, and gives back each retired table unless somebody may still read it.
+    fn return_tables<R: Wait, K: Ride>(&self, rt: &R, seat: &mut Seat<(), SeatView<M>>, caller: u32)
+        requires { IsRiding M.mix_of self.now K.riding (work_at self.now.env caller (returning self.now.env.geometry)) seat.old }
+        ensures { IsRiding M.mix_of self.now K.riding (work_at self.now.env caller works.Opening) seat.new }
+    {
+        let env = self.env;
+        let mut returns = ReturnTables::new(env.geometry);
+        for _ in 0..u64::MAX {
+            let at = WorkAt::Returning { returns };
+            let old = self.working::<K>(seat, env, caller, at);
+            let (next, answer) = returns.after(old);
+            if let Next::Done(()) = answer {
+                return;
+            }
+            returns = next;
+        }
+        never(rt);
+        unreachable!()
     }
 
     /// Makes a table of this size, and attaches it behind the last one, which has this shape.
@@ -219,7 +244,7 @@ impl<M: Mix> Table<M> {
         if stopped {
             return self.let_go::<K>(seat, env, caller, Outcome::Moved { again: true });
         }
-        self.publish::<K>(seat, env, caller, rehash)
+        self.publish::<R, K>(rt, seat, env, caller, rehash)
     }
 
     /// Moves the entries of a nested table.
@@ -251,8 +276,9 @@ impl<M: Mix> Table<M> {
 
     /// Makes the future table the current one, and retires the table before, which is empty.
     #[inline(always)]
-    fn publish<K: Ride>(
+    fn publish<R: Wait, K: Ride>(
         &self,
+        rt: &R,
         seat: &mut Seat<(), SeatView<M>>,
         env: Env,
         caller: u32,
@@ -266,16 +292,17 @@ impl<M: Mix> Table<M> {
         let future = slot_of(self.working::<K>(seat, env, caller, at));
         let root = rehash.root;
         let Some(_) = future else {
-            return self.retire::<K>(seat, env, caller, root, rehash.again);
+            return self.retire::<R, K>(rt, seat, env, caller, root, rehash.again);
         };
-        self.retire::<K>(seat, env, caller, root, true)
+        self.retire::<R, K>(rt, seat, env, caller, root, true)
     }
 
     /// Closes the read section, and retires the table of this slot. With `again` a further call has
     /// something to do.
     #[inline(always)]
-    fn retire<K: Ride>(
+    fn retire<R: Wait, K: Ride>(
         &self,
+        rt: &R,
         seat: &mut Seat<(), SeatView<M>>,
         env: Env,
         caller: u32,
@@ -288,7 +315,35 @@ impl<M: Mix> Table<M> {
         let ending = Ending::Retiring { root, again };
         self.working::<K>(seat, env, caller, WorkAt::Closing { ending });
         self.working::<K>(seat, env, caller, WorkAt::Retiring { root, again });
+        self.keep_sections::<R, K>(rt, seat, env, caller, root, again);
         self.unlock_work::<K>(seat, env, caller, Outcome::Moved { again })
+    }
+
+    /// Keeps the section words of all callers in this slot, whose table was just retired.
+    fn keep_sections<R: Wait, K: Ride>(
+        &self,
+        rt: &R,
+        seat: &mut Seat<(), SeatView<M>>,
+        env: Env,
+        caller: u32,
+        root: u32,
+        again: bool,
+    )
+        requires { IsRiding M.mix_of self.now K.riding (work_at env caller (keeping env.geometry root again)) seat.old }
+        ensures { IsRiding M.mix_of self.now K.riding (work_at env caller (works.LettingGo (Moved again))) seat.new }
+    {
+        let mut keep = KeepSections::new(env.geometry, root);
+        for _ in 0..u64::MAX {
+            let at = WorkAt::KeepingSections { keep, again };
+            let old = self.working::<K>(seat, env, caller, at);
+            let (next, answer) = keep.after(old);
+            if let Next::Done(()) = answer {
+                return;
+            }
+            keep = next;
+        }
+        never(rt);
+        unreachable!()
     }
 
     /// Closes the read section, and lets go of the work lock.

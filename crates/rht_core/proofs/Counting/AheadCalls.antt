@@ -183,18 +183,19 @@ module _ (M : Type 0) (mix : ℕ → ℕ → ℕ → ℕ) (env : Env) (events : 
   Keeps (Release port owner) did = IsRaise env.geometry did → ⊥
   Keeps _ did = Unit {0}
 
-  job_keeps : (job : Job) (did : Did) (performs : Performs mix env job did) → StandsIn mix env words_at job did performs
+  job_keeps : (job : Job) (steps : List Did) (did : Did) (performs : Performs mix env job did)
+      → StandsIn mix env words_at job steps did performs
       → Keeps (call_of job) did
-  job_keeps (binds port owner once state) did performs stands = λ last.
+  job_keeps (binds port owner once state) steps did performs stands = λ last.
       let (p, some, none) = last in
       let before = stands_for_bound env mix performs.words performs.ghost performs.whole p in
       let after = stands_for_bound env mix (applied performs.words did.op) _ performs.step.made.whole p in
       some (subst (λ ws. stands_for env.geometry ws p ≡ []) stands.now
       (before ∙ bind-keeps env.config.kind performs.caller port owner once _ _ _ _ _ _ performs.step.says p
       (sym after ∙ subst (λ ws. stands_for env.geometry ws p ≡ []) (sym stands.next) none)))
-  job_keeps (releases port owner state) did performs stands = λ raise.
+  job_keeps (releases port owner state) steps did performs stands = λ raise.
       release-none env.geometry env performs.caller state (sym performs.planned ∙ raise)
-  job_keeps _ did performs stands = tt
+  job_keeps _ steps did performs stands = tt
 
   -- ---- jobs
 
@@ -207,7 +208,7 @@ module _ (M : Type 0) (mix : ℕ → ℕ → ℕ → ℕ) (env : Env) (events : 
   NothingOfEnded call ending steps = Unit {0}
 
   job_goes : (job : Job) (steps : List Did) (did : Did) (performs : Performs mix env job did)
-      → StandsIn mix env words_at job did performs → JobShows job steps
+      → StandsIn mix env words_at job steps did performs → JobShows job steps
       → LeadsOn M mix env JobShows NothingOfEnded job (steps ++ did ∷ []) (job_after mix env job did.old)
   job_goes job steps did performs stands so_far =
       go (job_after mix env job did.old) (same_call mix env job did.old) performs.step
@@ -235,7 +236,7 @@ module _ (M : Type 0) (mix : ℕ → ℕ → ℕ → ℕ) (env : Env) (events : 
                 (stands_for env.geometry (applied performs.words did.op)) (performs.ghost.raised performs.caller) b)
                 step.knows.knowing.only.raising turns)))) so_far.shows;
             keeps = subst (λ asked. AllByRecursion (Keeps asked) (steps ++ did ∷ [])) (sym same)
-                (AllByRecursion-push (Keeps (call_of job)) steps did so_far.keeps (job_keeps job did performs stands));
+                (AllByRecursion-push (Keeps (call_of job)) steps did so_far.keeps (job_keeps job steps did performs stands));
           }
 
   -- ---- callers

@@ -13,6 +13,7 @@ use Rattle.rht_bind.specs.declared.bind.BindAt.TheVariants as bind_at
 use Rattle.rht_move.specs.declared.work.WorkAt.{WorkAt}
 use Rattle.rht_move.specs.declared.work.WorkAt.TheVariants as work_at
 use Rattle.rht_core.specs.Jobs.{Job, binds, works, job_plan, held_of}
+use Rattle.rht_core.proofs.Machines.ReturnPlans.{returns-kind, no_exchange}
 use Rattle.rht_core.proofs.Machines.NeverHeld.{tableless, slotless}
 use Rattle.rht_core.proofs.Reasons.AttachedTables.{make-none, unmake-none, relink-none}
 
@@ -60,6 +61,7 @@ module _ (env : Env) (c last slot : ℕ) (low : last < 8) where
       absurd (make-none env.geometry make.geometry make.exponent make.seed make.at last 0 (future_of slot) low plans)
   work-attaches (work_at.Unmaking root unmake) has plans =
       absurd (unmake-none env.geometry unmake.geometry unmake.slot unmake.at last 0 (future_of slot) low plans)
+  work-attaches (work_at.Returning returns) has plans = absurd (no_exchange (returns-kind returns.geometry returns.at) plans)
   work-attaches _ has plans = absurd (cc)
 
   pub job-attaches : (job : Job) → (held_of job).slot ≡ Some slot → job_plan env c job ≡ attaching → IsAttachingJob job slot

@@ -15,10 +15,11 @@ use Rattle.rht_core.specs.Runs.{IsAdmitted, Core, World, local_of, view_of, run_
 use Rattle.rht_stands.specs.StandsFor.{in_force, nodes_of}
 use Rattle.rht_core.proofs.Counting.RaisingCallers.{is_raising, raising, IsCountedBy}
 use Rattle.rht_core.proofs.Counting.AheadCalls.{are_ahead}
-use Rattle.rht_core.specs.Counts.{IsListed, IsPlaced, IsPageFree, IsPageOfSlot, IsPageInSlot, AreNoneHeld, AreBatched, taken_out, given_back, Counted, AtRest, OwnBatches}
+use Rattle.rht_core.specs.Counts.{IsListed, IsPlaced, IsPageFree, IsPageOfSlot, IsPageInSlot, AreNoneHeld, ArePagesApart, AreBatched, taken_out, given_back, Counted, AtRest, OwnBatches}
 use Rattle.rht_core.specs.declared.event.Event.{Event}
+use Rattle.rht_core.specs.Placed.{HasItsPages}
 use Rattle.rht_core.specs.TablePages.{IsPageOfTable}
-use Rattle.rht_ghost.proofs.Theory.Ghosts.{Owner, Free, NodeHeld, First, Leaving, Behind, Taken, PageOwner, PageFree, PageHeld, PageOf, SlotOwner, SlotFree, SlotHeld, Live, Retired, Ghost, has_table, index_at, table_of_slot, none-some, state_word, is_used, IsUsed, lock_bit, seat-used}
+use Rattle.rht_ghost.proofs.Theory.Ghosts.{Owner, Free, NodeHeld, First, Leaving, Behind, Taken, PageOwner, PageFree, PageHeld, PageOf, SlotOwner, SlotFree, SlotHeld, Live, Retiring, Retired, Back, slot_holder, unretired, Ghost, has_table, index_at, table_of_slot, none-some, state_word, is_used, IsUsed, lock_bit, seat-used}
 use Rattle.rht_ghost.proofs.Theory.Wholes.{AreRetired, key_of, firsts, raisers, outs, IsBuilt, Whole, slot-there}
 use Rattle.rht_ghost.proofs.Theory.Entries.{page_within}
 use Rattle.rht_ghost.proofs.Theory.Steps.{mem}
@@ -37,7 +38,9 @@ use Rattle.rht_core.proofs.Meaning.BoundPorts.{listed_bound}
 use Rattle.rht_core.proofs.Counting.CountedPorts.{firsts-AreAllBound}
 use Rattle.rht_core.proofs.Counting.CountedNodes.{count_few}
 use Rattle.rht_core.proofs.Counting.NodesOut.{is_out, out_nodes, out_nodes-distinct, out_nodes-among, out_nodes-many, out_nodes-in, out_nodes-out, sum_by-same, sum_by-plus, seat-is_out}
+use Rattle.rht_core.proofs.Counting.FreePages.{free_blank}
 use Rattle.rht_core.proofs.Counting.FullTables.{raises}
+use Rattle.rht_core.proofs.Counting.OwnPages.{pages_own}
 use Rattle.rht_core.proofs.Counting.TablePages.{pages_in_words}
 use Rattle.rht_core.proofs.Counting.RestingBuckets.{state_has, bucket_unlocked, bucket_emptied}
 
@@ -122,7 +125,9 @@ module _ (env : Env) (mix : ℕ → ℕ → ℕ → ℕ) (words : List ℕ) (G :
   has_state SlotFree has is = absurd (cc)
   has_state (SlotHeld c) has is = absurd (cc)
   has_state (Live τ) has is = absurd (omega arith)
+  has_state (Retiring τ) has is = absurd (omega arith)
   has_state (Retired τ) has is = absurd (omega arith)
+  has_state (Back c) has is = absurd (cc)
 
   page_placed : (p : ℕ) → p < env.geometry.pages → ((c : ℕ) → G.page p ≢ PageHeld c)
       → IsPageFree env.geometry words p ⊎ IsPageInSlot env.geometry words p
@@ -143,7 +148,7 @@ module _ (env : Env) (mix : ℕ → ℕ → ℕ → ℕ) (words : List ℕ) (G :
                 ((pages_in_words env mix words G whole τ there p).1 e);
           })
 
-  no_page_free : (s p : ℕ) → s < 8 → ((c : ℕ) → G.slot s ≢ SlotHeld c) → word_at env.geometry words (Slot s StateWord) ≢ 0
+  no_page_free : (s p : ℕ) → s < 8 → ((c : ℕ) → slot_holder (G.slot s) ≢ Some c) → word_at env.geometry words (Slot s StateWord) ≢ 0
       → IsPageOfSlot env.geometry words s p → IsPageFree env.geometry words p → ⊥
   no_page_free s p l unheld taken there free =
       let has = state_has (G.slot s) unheld (λ e. taken (whole.slots.states s l ∙ e)) in
@@ -161,7 +166,7 @@ module _ (env : Env) (mix : ℕ → ℕ → ℕ → ℕ) (words : List ℕ) (G :
       cc
 
   -- a slot that isn't free is retired, or has a table in force
-  slot_in_force : (s : ℕ) → s < 8 → AreRetired G None → ((c : ℕ) → G.slot s ≢ SlotHeld c)
+  slot_in_force : (s : ℕ) → s < 8 → AreRetired G None → ((c : ℕ) → slot_holder (G.slot s) ≢ Some c)
       → word_at env.geometry words (Slot s StateWord) ≢ 0
       → (word_at env.geometry words (Slot s StateWord) ≡ 2) ⊎ In s (in_force env.geometry words)
   slot_in_force s l retired unheld taken = go (G.slot s) refl
@@ -169,22 +174,24 @@ module _ (env : Env) (mix : ℕ → ℕ → ℕ → ℕ) (words : List ℕ) (G :
       go : (o : SlotOwner) → G.slot s ≡ o
           → (word_at env.geometry words (Slot s StateWord) ≡ 2) ⊎ In s (in_force env.geometry words)
       go SlotFree e = absurd (taken (whole.slots.states s l ∙ ap state_word e))
-      go (SlotHeld c) e = absurd (unheld c e)
+      go (SlotHeld c) e = absurd (unheld c (ap slot_holder e))
+      go (Retiring τ) e = inl (whole.slots.states s l ∙ ap state_word e)
       go (Retired τ) e = inl (whole.slots.states s l ∙ ap state_word e)
+      go (Back c) e = absurd (unheld c (ap slot_holder e))
       go (Live τ) e =
           let is = whole.tables.slots s (ap has_table e) in
           let σ = index_at G s in
           elim (cases_lt σ G.current) [
             | inl before ↦
                 let index : σ ≡ τ = ap table_of_slot e in
-                absurd (none-some refl (retired s τ e (omega (arith, index, before))))
+                absurd (none-some refl (retired s τ (ap unretired e) (omega (arith, index, before))))
             | inr from ↦
                 inr (subst (λ t. In t (in_force env.geometry words)) is.slot
                 (table_in_force env mix words G whole σ from is.attached))
           ]
 
   -- where no caller has the work lock, a slot or a page
-  none_held : ((c : ℕ) → G.worker ≢ Some c) → ((c s : ℕ) → G.slot s ≢ SlotHeld c) → ((c p : ℕ) → G.page p ≢ PageHeld c)
+  none_held : ((c : ℕ) → G.worker ≢ Some c) → ((c s : ℕ) → slot_holder (G.slot s) ≢ Some c) → ((c p : ℕ) → G.page p ≢ PageHeld c)
       → AreNoneHeld env.geometry words
   none_held idle no_slot no_page = record {
     no_work = whole.slots.worker_is ∙ ap lock_bit nobody;
@@ -199,6 +206,17 @@ module _ (env : Env) (mix : ℕ → ℕ → ℕ → ℕ) (words : List ℕ) (G :
 
       nobody : G.worker ≡ None
       nobody = none_is G.worker idle
+
+  -- so each table in a slot that isn't free has its pages for itself
+  pages_apart : AreNoneHeld env.geometry words → ArePagesApart env.geometry words
+  pages_apart held =
+      let has : (s : ℕ) → s < 8 → word_at env.geometry words (Slot s StateWord) ≢ 0 → HasItsPages env.geometry words s =
+      λ s l taken. elim (held.attached s l taken) [ inl retired ↦ inr (l, retired, held.no_work) | inr i ↦ inl i ] in
+      record {
+        blank = free_blank env mix words G whole;
+        apart = λ one other p l m takes_one takes_other.
+            (pages_own env mix words G whole).apart one other p (has one l takes_one) (has other m takes_other);
+      }
 
 module _ (M : Type 0) (mix : ℕ → ℕ → ℕ → ℕ) where
   raising-raisers : (env : Env) (core : Core M) (G : Ghost) → Inv env mix M core G
@@ -284,9 +302,13 @@ module _ (M : Type 0) (mix : ℕ → ℕ → ℕ → ℕ) where
       (range_with_len 0 env.geometry.callers)
       ∙ ap (λ (e : Env). sum_by (λ c. ended_outs (w.books c)) (range_with_len 0 e.geometry.callers))
       (sym has.inv.same_env) in
-      let no_slot : (c s : ℕ) → G.slot s ≢ SlotHeld c = λ c s is. let none = (knows c).only.slots s is in cc in
+      let no_slot : (c s : ℕ) → slot_holder (G.slot s) ≢ Some c = λ c s is. let none = (knows c).only.slots s is in cc in
       let no_lock : (c j : ℕ) → (G.bucket j).holder ≢ Some c =
       λ c j h. elim ((knows c).only.locks j h) [ inl e ↦ absurd (cc) | inr e ↦ absurd (cc) ] in
+      let held = none_held env mix core.words G has.inv.whole
+      (λ c works. let none = (knows c).only.works works in cc)
+      no_slot
+      (λ c p is. (knows c).only.pages_in p is) in
       record {
         unlocked = λ slot place there is. bucket_unlocked env mix core.words G has.inv.whole no_slot no_lock slot place there is;
         emptied = λ slot place low retired is.
@@ -304,10 +326,8 @@ module _ (M : Type 0) (mix : ℕ → ℕ → ℕ → ℕ) where
         batched = batched_at env events admitted quiet;
         single = few_listed env mix core.words G has.inv.whole;
         counted = rw all (firsts-AreAllBound env mix core.words G has.inv.whole);
-        none_held = none_held env mix core.words G has.inv.whole
-            (λ c works. let none = (knows c).only.works works in cc)
-            no_slot
-            (λ c p is. (knows c).only.pages_in p is);
+        none_held = held;
+        pages = pages_apart env mix core.words G has.inv.whole held;
         sections = λ c below. in_no_section env mix M events admitted c below (quiet c);
       }
 

@@ -9,6 +9,7 @@ use Rattle.std.proofs.lemmas.Bool.{cases_lt}
 use Rattle.std.proofs.lemmas.List.{take_all, length_push}
 use Rattle.rht_words.specs.declared.op.Op.{Op}
 use Rattle.rht_words.specs.declared.env.Env.{Env}
+use Rattle.rht_words.specs.declared.geometry.Geometry.{Geometry}
 use Rattle.rht_words.specs.declared.machine.Next.{Next}
 use Rattle.rht_words.specs.declared.machine.Next.TheVariants.{Go, Done}
 use Rattle.rht_words.specs.Machines.{GoesOrEnds}
@@ -19,6 +20,9 @@ use Rattle.rht_words.proofs.EachElement.{AllByRecursion-cut}
 use Rattle.rht_words.proofs.OpeningLaws.{stand_in_place}
 use Rattle.rht_words.proofs.WordChanges.{applied-other}
 use Rattle.rht_bind.specs.Bind.{after_at as bind_after_at}
+use Rattle.rht_reclaim.specs.ReturnTables.{return_tables_plan_at}
+use Rattle.rht_reclaim.specs.declared.return_tables.ReturnTablesAt.{ReturnTablesAt}
+use Rattle.rht_reclaim.specs.declared.return_tables.ReturnTablesAt.TheVariants as return_tables
 use Rattle.rht_move.specs.LastTable.{last_table_plan_at}
 use Rattle.rht_move.specs.declared.last_table.LastTableAt.{LastTableAt}
 use Rattle.rht_move.specs.declared.last_table.LastTableAt.TheVariants as last_tables
@@ -47,7 +51,7 @@ use Rattle.rht_core.proofs.Tracing.TracedRuns.{world-traced_of}
 use Rattle.rht_core.proofs.Tracing.TracesInRuns.{remembers}
 use Rattle.rht_core.proofs.Reasons.CausesInRuns.{JobSaw, EndsSeen, job-leads, first_job-saw}
 use Rattle.rht_core.proofs.Reasons.CalmBinds.{calm-bind, bind-spares}
-use Rattle.rht_core.proofs.Reasons.CalmCalls.{HasFew, IsRoomy, IsFirst, IsZero, CalmWork, CalmJob, CalmEnd, few-calm, calm-work, future-none}
+use Rattle.rht_core.proofs.Reasons.CalmCalls.{HasFew, IsRoomy, IsFirst, IsZero, CalmReturns, CalmWork, CalmJob, CalmEnd, few-calm, calm-work, future-none}
 use Rattle.rht_core.proofs.Reasons.CalmWalks.{CalmWalk, calm-walk}
 use Rattle.rht_words.specs.Links.{slot_of}
 use Rattle.rht_words.specs.Operations.{old_of}
@@ -98,10 +102,15 @@ module _ (env : Env) (mix : ℕ → ℕ → ℕ → ℕ) where
   last-spares (last_tables.Future table) = by_load _ _ refl
   last-spares (last_tables.Shape table) = by_load _ _ refl
 
+  returns-spares : (g : Geometry) (state : ReturnTablesAt) → CalmReturns env state → SparesSlots (return_tables_plan_at g state)
+  returns-spares g (return_tables.State slot) calm = by_load _ _ refl
+  returns-spares g _ calm = absurd calm
+
   work-spares : (c : ℕ) → c < 16 → (state : WorkAt) → work.IsWorkAtIn env state → CalmWork env state
       → SparesSlots (work.plan_at env c state)
   work-spares c few work_at.Opening within calm = at_section few _ refl
   work-spares c few (work_at.Closing ending) within calm = at_section few _ refl
+  work-spares c few (work_at.Returning returns) within calm = returns-spares returns.geometry returns.at calm
   work-spares c few work_at.WorkLock within calm = inr (inl refl)
   work-spares c few work_at.CurrentTable within calm = by_load _ _ refl
   work-spares c few (work_at.LastTable root seek) within calm =
@@ -226,7 +235,7 @@ module _ (M : Type 0) (mix : ℕ → ℕ → ℕ → ℕ) (env : Env) (roomy : I
         → Now job steps → CalmOn job (job_after mix env job did.old)
     job-calm (binds port owner once state) steps did does now kept =
         next-goes (CalmJob env) (CalmEnd env) (binds port owner once state) (binds port owner once) plain_ending (bind_after_at mix env port once state did.old)
-        (calm-bind env (IsFirst env) (IsZero env) words_at (λ i. (few i).bound) mix port owner once state steps did does kept.0.0 kept.1
+        (calm-bind env (IsFirst env) (IsZero env) words_at (λ i. (few i).bound) mix port owner once state steps did _ does kept.0.0 kept.1
         (few-calm env mix roomy did (words_at did.index) (unmade did.index) (few did.index) port owner once state does now))
     job-calm (works state) steps did does now kept =
         next-goes (CalmJob env) (CalmEnd env) (works state) works plain_ending (work.after_at mix env state did.old)

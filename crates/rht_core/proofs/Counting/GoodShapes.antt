@@ -28,9 +28,10 @@ use Rattle.rht_move.specs.declared.work.WorkAt.{WorkAt}
 use Rattle.rht_move.specs.declared.work.WorkAt.TheVariants as at
 use Rattle.rht_move.specs.Work.{after_at, IsWorkAtIn}
 use Rattle.rht_ghost.proofs.Theory.Ghosts.{Ghost, table_at, put-all, made_table}
+use Rattle.rht_ghost.proofs.Theory.Departures.{withdrawn_table}
 use Rattle.rht_ghost.proofs.Theory.Ways.{entered_table}
 use Rattle.rht_ghost.proofs.Theory.Wholes.{Whole, IsAt}
-use Rattle.rht_ghost.proofs.Theory.Steps.{Move, Attaches, Enters, ghost_after, mem, by_test}
+use Rattle.rht_ghost.proofs.Theory.Steps.{Move, Attaches, Enters, Withdraws, ghost_after, mem, by_test}
 use Rattle.rht_ghost.proofs.Pieces.TableLoads.{shape_word}
 use Rattle.rht_core.proofs.Counting.MakingWorks.{MakeGoes, WorkMakes, work-leads}
 use Rattle.rht_core.proofs.Counting.MakingBinds.{BindMakes, bind-leads}
@@ -159,6 +160,9 @@ module _ (env : Env) (mix : ℕ → ℕ → ℕ → ℕ) (Good : ℕ → Type 0)
       attached-good G slot shape seed serial good (attaches slot shape seed serial refl) c
   moved-good c (Enters j p) G good attaches =
       put-all (λ i t. i < G.attached → Good t.shape) G.table (table_at G j) (entered_table (G.table (table_at G j)) j p)
+      (good (table_at G j)) (λ i other. good i)
+  moved-good c (Withdraws j p) G good attaches =
+      put-all (λ i t. i < G.attached → Good t.shape) G.table (table_at G j) (withdrawn_table (G.table (table_at G j)) j)
       (good (table_at G j)) (λ i other. good i)
   moved-good c _ G good attaches = good
 

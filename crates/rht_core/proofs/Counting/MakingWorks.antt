@@ -21,6 +21,8 @@ use Rattle.rht_move.specs.declared.last_table.Last.{Last as LastOne}
 use Rattle.rht_move.specs.declared.last_table.LastTableAt.{LastTableAt}
 use Rattle.rht_move.specs.declared.last_table.LastTableAt.TheVariants as last_tables
 use Rattle.rht_move.specs.LastTable.{LastTableModel, last_table_after, last_table_after_at}
+use Rattle.rht_reclaim.specs.KeepSections.{KeepSectionsModel, keep_sections_after}
+use Rattle.rht_reclaim.specs.ReturnTables.{ReturnTablesModel, return_tables_after}
 use Rattle.rht_move.specs.Choice.{choice_of}
 use Rattle.rht_move.specs.declared.work.choice.Choice.{Choice}
 use Rattle.rht_move.specs.declared.work.choice.Choice.TheVariants as choices
@@ -36,7 +38,7 @@ use Rattle.rht_move.specs.declared.work.ending.Ending.{Ending}
 use Rattle.rht_move.specs.declared.work.ending.Ending.TheVariants as endings
 use Rattle.rht_move.specs.declared.work.WorkAt.{WorkAt}
 use Rattle.rht_move.specs.declared.work.WorkAt.TheVariants as at
-use Rattle.rht_move.specs.Work.{after_at, letting_go, closed, last_seen, begun, not_made, made, unmade, future_or_idle, bucket_of_root, next_bucket, entry_passed, locked, unlocking, entry_table_seen, with_word, entry_or_empty, walked, second_locked, cut_off, unlocked_bucket, retiring, IsMakingIn, IsWorkAtIn}
+use Rattle.rht_move.specs.Work.{after_at, letting_go, closed, returning, returned, kept, last_seen, begun, not_made, made, unmade, future_or_idle, bucket_of_root, next_bucket, entry_passed, locked, unlocking, entry_table_seen, with_word, entry_or_empty, walked, second_locked, cut_off, unlocked_bucket, retiring, IsMakingIn, IsWorkAtIn}
 use Rattle.rht_ghost.proofs.Theory.Steps.{by_test}
 
 -- a making goes on so, or it has made a table of which this is true: its slot and its shape
@@ -146,6 +148,14 @@ module _ (env : Env) (Last : ℕ → Type 0) (Makes : MakeModel → Type 0) (Has
   goes-closed (endings.Retiring root again) = tt
   goes-closed (endings.LettingGo outcome) = tt
 
+  goes-returned : (returns : ReturnTablesModel) (next : Next (Unit {0})) → Now (returned returns next)
+  goes-returned returns Go = tt
+  goes-returned returns (Done done) = tt
+
+  goes-kept : (keep : KeepSectionsModel) (again : Bool) (next : Next (Unit {0})) → Now (kept keep again next)
+  goes-kept keep again Go = tt
+  goes-kept keep again (Done done) = tt
+
   -- what leads there: the shape of the last table that it finds, a size that it chooses by the one that it knows, and an operation of the making
   pub record WorkLeads (LastWas : ℕ → Type 0) (MakesWas : MakeModel → Type 0) (state : WorkAt) (old : ℕ) : Type 0 where
     pub last : (root : ℕ) (seek : LastTableModel) (slot : ℕ) → state ≡ at.LastTable root seek → seek.at ≡ last_tables.Shape slot
@@ -167,7 +177,7 @@ module _ (env : Env) (Last : ℕ → Type 0) (Makes : MakeModel → Type 0) (Has
   work-leads mix LastWas MakesWas HasWas (at.Making wanted make) old within now leads =
       goes-made-next wanted (make_after make old) (leads.makes wanted make refl within now)
   work-leads mix LastWas MakesWas HasWas at.WorkLock old within now leads =
-      by_test (λ t. Now (cond {A = WorkAt × Next Reply} t (at.Opening, Go) (at.WorkLock, Done Elsewhere)).0) (old == 0)
+      by_test (λ t. Now (cond {A = WorkAt × Next Reply} t (returning env.geometry, Go) (at.WorkLock, Done Elsewhere)).0) (old == 0)
       (λ t. tt) (λ f. tt)
   work-leads mix LastWas MakesWas HasWas (at.Attaching root last slot shape) old within now leads =
       by_test (λ t. Now (cond t (at.RootFuture root dues.Attached) (at.Unmaking root (unmake_new env.geometry slot shape))))
@@ -192,4 +202,8 @@ module _ (env : Env) (Last : ℕ → Type 0) (Makes : MakeModel → Type 0) (Has
   work-leads mix LastWas MakesWas HasWas (at.Unlocking rehash number unlock stop) old within now leads = goes-unlocked rehash number stop
   work-leads mix LastWas MakesWas HasWas (at.NewFuture rehash) old within now leads = goes-retiring rehash (slot_of old)
   work-leads mix LastWas MakesWas HasWas (at.Closing ending) old within now leads = goes-closed ending
+  work-leads mix LastWas MakesWas HasWas (at.Returning returns) old within now leads =
+      goes-returned (return_tables_after returns old).0 (return_tables_after returns old).1
+  work-leads mix LastWas MakesWas HasWas (at.KeepingSections keep again) old within now leads =
+      goes-kept (keep_sections_after keep old).0 again (keep_sections_after keep old).1
   work-leads mix LastWas MakesWas HasWas _ old within now leads = tt

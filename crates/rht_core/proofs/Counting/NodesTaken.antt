@@ -34,7 +34,7 @@ use Rattle.rht_core.specs.Laws.{IsNoTake, IsTakeOf, TakesNone, TakesOne, IsTaken
 use Rattle.rht_core.specs.Refused.{IsTableWord}
 use Rattle.rht_ghost.proofs.Theory.Wholes.{place_at}
 use Rattle.rht_ghost.proofs.Theory.Answering.{TellsNode, TellsNode-same, known_so, unknown_before}
-use Rattle.rht_ghost.proofs.Theory.Steps.{bare, Holding, Move, Quiet, TakesNode, GivesNode, TakesLock, DropsLock, Raises, Links, Lowers, Rebinds, LinksBehind, Arms, TakesSlot, GivesSlot, TakesPages, GivesPages, Attaches, Enters, TakesWork, GivesWork, BeginsMoving, TakesSecond, Leaves, Arrives, CutsOff, Publishes, Retires, Opens, Closes, ReturnsNode, Does, IsAside, DoesQuiet}
+use Rattle.rht_ghost.proofs.Theory.Steps.{bare, Holding, Move, Quiet, TakesNode, GivesNode, TakesLock, DropsLock, Raises, Links, Lowers, Rebinds, LinksBehind, Arms, TakesSlot, GivesSlot, TakesPages, GivesPages, Attaches, Enters, TakesWork, GivesWork, BeginsMoving, TakesSecond, Leaves, Arrives, CutsOff, Publishes, Retires, KeepsWord, Settles, Withdraws, TakesBack, Opens, Closes, ReturnsNode, Does, IsAside, DoesQuiet, DoesKeepWord}
 use Rattle.rht_core.proofs.Events.JobsOfCallers.{same_call, first_unknown, first_without}
 use Rattle.rht_core.proofs.Tracing.TracedJobs.{Performs, LeadsOn, IsKeeping, jobs_keep}
 
@@ -87,7 +87,7 @@ offset-less StateWord of_table = absurd of_table
 offset-less (LoadedSection caller) of_table = absurd of_table
 offset-less _ of_table = omega arith
 
-on_slot : (g : Geometry) (did : Did) (slot : ℕ) (word : SlotWord) → slot < 8 → slot_offset word < 8
+on_slot : (g : Geometry) (did : Did) (slot : ℕ) (word : SlotWord) → slot < 8 → slot_offset word < 32
     → op_place did.op ≡ place_of g (Slot slot word) → IsNoTake g did
 on_slot g did slot word within few on = off_map g did (inl (omega (arith, on, within, few)))
 
@@ -146,6 +146,15 @@ took_none env mix did h h' does =
         (let few = offset-less own.word own.of_table in omega (arith, few)) own.place
     aside_none (inr (inr serial)) = off_map env.geometry did
         (inl (let on : op_place did.op ≡ 3 = ap op_place serial in omega (arith, on)))
+
+-- nor does one that keeps a section word in a slot
+kept_word : (g : Geometry) (did : Did) (slot caller word : ℕ) (h h' : Holding)
+    → DoesKeepWord g slot caller word did.op h (bare h') → TookNone g h h' did
+kept_word g did slot caller word h h' does = record {
+  none = on_slot g did slot (LoadedSection caller) does.within (let low = does.caller_in in omega (arith, low))
+      (ap op_place does.keeping);
+  left = inl (ap (λ (h : Holding). h.node) does.holds);
+}
 
 -- By the move.
 took : (env : Env) (mix : ℕ → ℕ → ℕ → ℕ) (move : Move) (did : Did) (h h' : Holding)
@@ -263,6 +272,16 @@ took env mix Publishes did h h' does = inl record {
 }
 took env mix (Retires s) did h h' does = inl record {
   none = on_slot env.geometry did s StateWord does.within (omega arith) (ap op_place does.retiring);
+  left = inl (ap (λ (h : Holding). h.node) does.holds);
+}
+took env mix (KeepsWord s d word) did h h' does = inl (kept_word env.geometry did s d word h h' does)
+took env mix (Settles s d word) did h h' does = inl (kept_word env.geometry did s d word h h' does)
+took env mix (Withdraws j p) did h h' does = inl record {
+  none = on_bucket env mix did j (ap op_place does.clearing);
+  left = inl (ap (λ (h : Holding). h.node) does.holds);
+}
+took env mix (TakesBack s index bits) did h h' does = inl record {
+  none = on_page_map env.geometry did index does.sets.on;
   left = inl (ap (λ (h : Holding). h.node) does.holds);
 }
 took env mix (Opens d) did h h' does = inl record {

@@ -150,8 +150,8 @@ module _ (env : Env) where
         bind-flat state of attempt locate shape is seed =
             let here = subst AtSized is of in
             let G = here.does.ghost in
-            let shaped : TableMeans env mix G (Shaped port locate.table shape) =
-            subst (λ s. TableMeans env mix G (known_locate port locate.table s)) seed here.does.knows.knowing.means.table in
+            let shaped : TableMeans env mix here.does.caller G (Shaped port locate.table shape) =
+            subst (λ s. TableMeans env mix here.does.caller G (known_locate port locate.table s)) seed here.does.knows.knowing.means.table in
             (subst IsSized shaped.shape_is (here.sized _ shaped.passing.at.attached)).flat
 
         bind-sees : (state : BindAt) → AtSized state → IsCalmAt env Any Any state did.old
@@ -187,7 +187,7 @@ module _ (env : Env) where
           → OneOn job (job_after mix env job did.old)
       one-leads c (binds port owner once state) steps does sized low saw one =
           next-goes OneJob OneEnd (binds port owner once state) (binds port owner once) plain_ending (bind_after_at mix env port once state did.old)
-          (calm-bind env Any Any words_at (λ i. (few i).bound) mix port owner once state steps did does saw.0 one
+          (calm-bind env Any Any words_at (λ i. (few i).bound) mix port owner once state steps did _ does saw.0 one
           (bind-sees port owner once state (record { does = does; sized = sized; low = low })))
       one-leads c (works state) steps does sized low saw one =
           next-goes OneJob OneEnd (works state) works plain_ending (work.after_at mix env state did.old)

@@ -1,13 +1,13 @@
 -- A table that is in force, or retired, has its pages for itself: by the words a page is one of its own exactly where the ghost says so, which
 -- has one owner for each page.
-use Rattle.std.proofs.Common.{◌≡◌, ℕ, true, List, refl, sym, ◌∙◌, ap, subst, inl, inr}
+use Rattle.std.proofs.Common.{◌≡◌, ◌≢◌, ℕ, true, List, refl, sym, ◌∙◌, ap, subst, inl, inr, arith}
 use Rattle.rht_words.specs.declared.env.Env.{Env}
 use Rattle.rht_core.specs.Runs.{run_of}
 use Rattle.rht_core.specs.Counts.{IsPageOfSlot}
 use Rattle.rht_core.specs.Placed.{HasItsPages, ArePagesOwn, OwnPages}
 use Rattle.rht_core.specs.TablePages.{IsPageOfTable}
 use Rattle.rht_stands.specs.StandsFor.{shape_of}
-use Rattle.rht_ghost.proofs.Theory.Ghosts.{SlotOwner, SlotFree, SlotHeld, Live, Retired, PageOf, Ghost, has_table, index_at, state_word, table_of_page}
+use Rattle.rht_ghost.proofs.Theory.Ghosts.{SlotOwner, SlotFree, SlotHeld, Live, Retiring, Retired, Back, PageOf, Ghost, has_table, index_at, lock_bit, state_word, table_of_page}
 use Rattle.rht_ghost.proofs.Theory.Wholes.{Whole, force-there, slot-there}
 use Rattle.rht_ghost.proofs.Theory.Entries.{page_within}
 use Rattle.rht_ghost.proofs.Theory.Steps.{mem}
@@ -16,12 +16,14 @@ use Rattle.rht_core.proofs.Meaning.TablesInForce.{in_force_is}
 use Rattle.rht_core.proofs.Counting.RestingBuckets.{IsTableIn}
 use Rattle.rht_core.proofs.Counting.TablePages.{pages_in_words}
 
--- a slot that is retired has a table
-retired_has : (o : SlotOwner) → state_word o ≡ 2 → has_table o ≡ true
-retired_has SlotFree is = absurd (cc)
-retired_has (SlotHeld c) is = absurd (cc)
-retired_has (Live τ) is = refl
-retired_has (Retired τ) is = refl
+-- a slot that is retired, and whose table nobody gives back, has a table
+retired_has : (o : SlotOwner) → ((c : ℕ) → o ≢ Back c) → state_word o ≡ 2 → has_table o ≡ true
+retired_has SlotFree none is = absurd (cc)
+retired_has (SlotHeld c) none is = absurd (cc)
+retired_has (Live τ) none is = refl
+retired_has (Retiring τ) none is = refl
+retired_has (Retired τ) none is = refl
+retired_has (Back c) none is = absurd (none c refl)
 
 module _ (env : Env) (mix : ℕ → ℕ → ℕ → ℕ) (words : List ℕ) (G : Ghost) (whole : Whole env mix (mem env mix words) G) where
   -- such a table was attached
@@ -31,7 +33,9 @@ module _ (env : Env) (mix : ℕ → ℕ → ℕ → ℕ) (words : List ℕ) (G :
       let there = force-there env mix whole.tables is.table is.current is.attached in
       record { table = is.table; attached = is.attached; there = there; slot_is = is.slot_is }
   own_table slot (inr (low, retired, free)) =
-      let has = retired_has (G.slot slot) (sym (whole.slots.states slot low) ∙ retired) in
+      let has = retired_has (G.slot slot) (λ c back.
+      let locked : 0 ≡ 1 = sym free ∙ whole.slots.worker_is ∙ ap lock_bit (whole.slots.back slot c back) in omega (arith, locked))
+      (sym (whole.slots.states slot low) ∙ retired) in
       let is = whole.tables.slots slot has in
       let there = slot-there env mix whole.tables slot has in
       record { table = index_at G slot; attached = is.attached; there = there; slot_is = sym is.slot }
@@ -45,7 +49,7 @@ module _ (env : Env) (mix : ℕ → ℕ → ℕ → ℕ) (words : List ℕ) (G :
       (pages_in_words env mix words G whole has.table has.there page).0
       (subst (λ s. IsPageOfTable env.geometry words s page) shape is)
 
-  pages_own : ArePagesOwn env.geometry words
+  pub pages_own : ArePagesOwn env.geometry words
   pages_own = record {
     taken = λ slot page has is free.
         let in_slot = own_table slot has in

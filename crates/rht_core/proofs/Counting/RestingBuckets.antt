@@ -9,7 +9,7 @@ use Rattle.rht_words.specs.Places.{Slot, StateWord, word_at}
 use Rattle.rht_words.specs.Shapes.{unpacked, size_of}
 use Rattle.rht_stands.specs.StandsFor.{bucket_in, shape_of}
 use Rattle.rht_core.specs.Counts.{HasTable, IsBucketOfSlot}
-use Rattle.rht_ghost.proofs.Theory.Ghosts.{SlotOwner, SlotFree, SlotHeld, Live, Retired, Bucket, Ghost, has_table, index_at, state_word, lock_bit, some-same}
+use Rattle.rht_ghost.proofs.Theory.Ghosts.{SlotOwner, SlotFree, SlotHeld, Live, Retiring, Retired, Back, slot_holder, Bucket, Ghost, has_table, index_at, state_word, lock_bit, some-same}
 use Rattle.rht_ghost.proofs.Theory.Wholes.{place_at, Whole, IsThere, force-there, slot-there}
 use Rattle.rht_ghost.proofs.Theory.Passed.{place-word, place-bucket}
 use Rattle.rht_ghost.proofs.Theory.Entries.{bucket-no_entry}
@@ -19,11 +19,13 @@ use Rattle.rht_ghost.proofs.Theory.PlacesRead.{placed_in_words}
 use Rattle.rht_core.proofs.Returning.RetiredTables.{behind-blank}
 
 -- a slot that isn't free, and that no caller has, has a table
-pub state_has : (o : SlotOwner) → ((c : ℕ) → o ≢ SlotHeld c) → state_word o ≢ 0 → has_table o ≡ true
+pub state_has : (o : SlotOwner) → ((c : ℕ) → slot_holder o ≢ Some c) → state_word o ≢ 0 → has_table o ≡ true
 state_has SlotFree unheld is = absurd (is refl)
 state_has (SlotHeld c) unheld is = absurd (unheld c refl)
 state_has (Live τ) unheld is = refl
+state_has (Retiring τ) unheld is = refl
 state_has (Retired τ) unheld is = refl
+state_has (Back c) unheld is = absurd (unheld c refl)
 
 -- one with this state word isn't in use
 retired_not_live : (o : SlotOwner) (τ : ℕ) → state_word o ≡ 2 → o ≡ Live τ → ⊥
@@ -71,7 +73,7 @@ module _ (env : Env) (mix : ℕ → ℕ → ℕ → ℕ) (words : List ℕ) (G :
 -- ---- while no caller holds a lock or a slot
 
 module _ (env : Env) (mix : ℕ → ℕ → ℕ → ℕ) (words : List ℕ) (G : Ghost) (whole : Whole env mix (mem env mix words) G)
-    (unheld : (c s : ℕ) → G.slot s ≢ SlotHeld c) (unlocked : (c j : ℕ) → (G.bucket j).holder ≢ Some c) where
+    (unheld : (c s : ℕ) → slot_holder (G.slot s) ≢ Some c) (unlocked : (c j : ℕ) → (G.bucket j).holder ≢ Some c) where
   nobody : (j : ℕ) → (G.bucket j).holder ≡ None
   nobody j = go (G.bucket j).holder refl
     where

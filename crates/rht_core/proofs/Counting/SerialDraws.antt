@@ -1,6 +1,6 @@
 -- Which operation draws a serial: the one in a making at which its slot and its pages are taken. Each other operation of each job leaves the
 -- word of the next serial, since it is a load, or on another word.
-use Rattle.std.proofs.Common.{◌≡◌, ◌≢◌, ◌<◌, ◌⊎◌, ℕ, Bool, List, get_or, refl, ap, inl, inr, arith}
+use Rattle.std.proofs.Common.{◌≡◌, ◌≢◌, ◌<◌, ◌⊎◌, ℕ, Bool, List, get_or, refl, sym, ap, subst, inl, inr, arith}
 use Rattle.std.specs.Prelude.{Option, Some, None}
 use Rattle.rht_words.specs.declared.op.Op.{Op}
 use Rattle.rht_words.specs.declared.op.Op.TheVariants.{Load, Add}
@@ -11,7 +11,7 @@ use Rattle.rht_words.specs.Places.{ChainLink, ListLink, IsBucketPlace}
 use Rattle.rht_words.proofs.PlacesApart.{parts_in_order}
 use Rattle.rht_words.proofs.WordChanges.{applied-other}
 use Rattle.rht_arena.specs.TakeRun.{take_run_plan_at}
-use Rattle.rht_arena.specs.GiveRun.{GiveRunModel, give_run_plan}
+use Rattle.rht_arena.specs.GiveRun.{GiveRunModel, give_run_new, give_run_plan}
 use Rattle.rht_arena.specs.declared.take_run.TakeRunAt.{TakeRunAt}
 use Rattle.rht_arena.specs.declared.take_run.TakeRunAt.TheVariants as runs
 use Rattle.rht_nest.specs.Grow.{grow_plan_at}
@@ -26,6 +26,16 @@ use Rattle.rht_nest.specs.declared.unmake.UnmakeAt.TheVariants as unmakes
 use Rattle.rht_bind.specs.Bind as bind
 use Rattle.rht_bind.specs.declared.bind.BindAt.{BindAt}
 use Rattle.rht_bind.specs.declared.bind.BindAt.TheVariants as bind_at
+use Rattle.rht_nest.specs.Place.{top_page}
+use Rattle.rht_reclaim.specs.GiveTable.{give_table_plan_at}
+use Rattle.rht_reclaim.specs.KeepSections.{keep_sections_plan_at}
+use Rattle.rht_reclaim.specs.ReturnTables.{return_tables_plan_at, IsReturnTablesAtIn}
+use Rattle.rht_reclaim.specs.declared.give_table.GiveTableAt.{GiveTableAt}
+use Rattle.rht_reclaim.specs.declared.give_table.GiveTableAt.TheVariants as give_at
+use Rattle.rht_reclaim.specs.declared.keep_sections.KeepSectionsAt.{KeepSectionsAt}
+use Rattle.rht_reclaim.specs.declared.keep_sections.KeepSectionsAt.TheVariants as keep_at
+use Rattle.rht_reclaim.specs.declared.return_tables.ReturnTablesAt.{ReturnTablesAt}
+use Rattle.rht_reclaim.specs.declared.return_tables.ReturnTablesAt.TheVariants as return_at
 use Rattle.rht_move.specs.LastTable.{last_table_plan_at}
 use Rattle.rht_move.specs.declared.last_table.LastTableAt.{LastTableAt}
 use Rattle.rht_move.specs.declared.last_table.LastTableAt.TheVariants as last_tables
@@ -151,11 +161,41 @@ module _ (env : Env) (c : ℕ) where
   last-serial h (last_tables.Future table) = inl (_, refl)
   last-serial h (last_tables.Shape table) = inl (_, refl)
 
+  -- the giving back of tables is on the map of pages, on entries and on state words
+  give_table-serial : (slot : ℕ) (state : GiveTableAt) → SparesSerial (give_table_plan_at env.geometry slot state)
+  give_table-serial slot (give_at.Run give) = give-serial give
+  give_table-serial slot (give_at.ClearLeaf shape top page leaf below) = inr (λ e.
+      let order = parts_in_order env.geometry in omega (arith, e, order.page_map, order.nodes, order.pages))
+  give_table-serial slot (give_at.GiveLeaf shape top page leaf below) = give-serial (give_run_new env.geometry below 1)
+  give_table-serial slot (give_at.ClearTop shape top page) = inr (λ e.
+      let order = parts_in_order env.geometry in omega (arith, e, order.page_map, order.nodes, order.pages))
+  give_table-serial slot (give_at.GivePage shape top page) = give-serial (give_run_new env.geometry page 1)
+  give_table-serial slot (give_at.GiveTop shape) = give-serial (give_run_new env.geometry (top_page env.geometry shape) 1)
+  give_table-serial slot give_at.FreeSlot = inr (λ e. omega (arith, e))
+  give_table-serial slot _ = inl (_, refl)
+
+  returns-serial : (state : ReturnTablesAt) → IsReturnTablesAtIn env.geometry state
+      → SparesSerial (return_tables_plan_at env.geometry state)
+  returns-serial (return_at.Giving give) within =
+      subst (λ (h : Geometry). SparesSerial (give_table_plan_at h give.slot give.at)) (sym within.geometry_same)
+      (give_table-serial give.slot give.at)
+  returns-serial _ within = inl (_, refl)
+
+  keep-serial : (slot : ℕ) (state : KeepSectionsAt) → SparesSerial (keep_sections_plan_at env.geometry slot state)
+  keep-serial slot (keep_at.Section caller) = inl (_, refl)
+  keep-serial slot (keep_at.Word caller word) = inr (λ e. omega (arith, e))
+
   work-draws : c < 16 → (state : WorkAt) → work.IsWorkAtIn env state → SparesSerial (work.plan_at env c state) ⊎ DrawsWork state
   work-draws few (work_at.Making wanted make) within = making-draws make
   work-draws few work_at.Opening within = inl (by_slots _ (at_section few _ refl))
   work-draws few (work_at.Closing ending) within = inl (by_slots _ (at_section few _ refl))
   work-draws few work_at.WorkLock within = inl (inr (λ e. omega (arith, e)))
+  work-draws few (work_at.Returning returns) within =
+      inl (subst (λ (h : Geometry). SparesSerial (return_tables_plan_at h returns.at)) (sym within.geometry_same)
+      (returns-serial returns.at within.at_in))
+  work-draws few (work_at.KeepingSections keep again) within =
+      inl (subst (λ (h : Geometry). SparesSerial (keep_sections_plan_at h keep.slot keep.at)) (sym within.geometry_same)
+      (keep-serial keep.slot keep.at))
   work-draws few (work_at.LastTable root seek) within = inl (last-serial seek.geometry seek.at)
   work-draws few (work_at.Attaching root last slot shape) within = inl (inr (λ e. omega (arith, e)))
   work-draws few (work_at.Unmaking root unmake) within = inl (unmake-serial unmake.geometry unmake.slot unmake.at)

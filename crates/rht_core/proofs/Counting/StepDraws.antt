@@ -13,8 +13,9 @@ use Rattle.rht_core.specs.Jobs.{Job, job_of, job_plan, job_after, told, held_of,
 use Rattle.rht_core.specs.Runs.{Core, World, local_of, planned_in, view_of}
 use Rattle.rht_ghost.proofs.Theory.Ghosts.{Ghost, put, put-all, put-same, put-other, table_at, Table, made_table}
 use Rattle.rht_ghost.proofs.Theory.Reliance.{HoldingsStay}
+use Rattle.rht_ghost.proofs.Theory.Departures.{withdrawn_table}
 use Rattle.rht_ghost.proofs.Theory.Ways.{entered_table}
-use Rattle.rht_ghost.proofs.Theory.Steps.{Move, Attaches, Enters, ReadyFor, Does, ghost_after, mem}
+use Rattle.rht_ghost.proofs.Theory.Steps.{Move, Attaches, Enters, Withdraws, ReadyFor, Does, ghost_after, mem}
 use Rattle.rht_core.proofs.Events.Invariants.{Knows, Inv, StepOf}
 use Rattle.rht_core.proofs.Events.RangesInRuns.{AllIn}
 use Rattle.rht_core.proofs.Counting.AttachingJobs.{IsAttachingJob, job-attaches}
@@ -39,6 +40,11 @@ module _ (env : Env) (mix : ℕ → ℕ → ℕ → ℕ) where
   moved-serials c (Enters j p) G = inl (record {
     attached = refl;
     serials = put-all (λ i t. t.serial ≡ (G.table i).serial) G.table (table_at G j) (entered_table (G.table (table_at G j)) j p) refl
+        (λ i other. refl);
+  })
+  moved-serials c (Withdraws j p) G = inl (record {
+    attached = refl;
+    serials = put-all (λ i t. t.serial ≡ (G.table i).serial) G.table (table_at G j) (withdrawn_table (G.table (table_at G j)) j) refl
         (λ i other. refl);
   })
   moved-serials c _ G = inl (record { attached = refl; serials = λ τ. refl })

@@ -14,7 +14,7 @@ use Rattle.rht_words.proofs.ShapeSizes.{IsSizeUpTo-size_of}
 use Rattle.rht_nest.specs.Place.{is_deep, top_page, top_entries}
 use Rattle.rht_nest.specs.Tables.{is_nested, run_first, run_pages, pages_of_table}
 use Rattle.rht_stands.specs.StandsFor.{page_word}
-use Rattle.rht_core.specs.TablePages.{LeadsOn, IsNestedPage, IsPageOfTable}
+use Rattle.rht_core.specs.TablePages.{IsEntryOfTable, LeadsOn, IsNestedPage, IsPageOfTable}
 use Rattle.rht_ghost.proofs.Theory.Ghosts.{Part, Row, Leaf, Middle, Top, has_entries, Table, PageOwner, PageOf, Ghost, entry_word, none-some}
 use Rattle.rht_ghost.proofs.Theory.Ways.{first_page, entries_in, behind_top, StandsAs}
 use Rattle.rht_ghost.proofs.Theory.Wholes.{pages_of, IsFlat, IsNested, Whole, IsThere}
@@ -84,17 +84,17 @@ module _ (env : Env) (mix : ℕ → ℕ → ℕ → ℕ) (words : List ℕ) wher
     abbrev N : ℕ
     N = entries_in shape
 
-    top_is : top_page g shape ≡ first_page shape
+    pub top_is : top_page g shape ≡ first_page shape
     top_is = omega (arith, nested.top_within)
 
-    many_entries : top_entries shape ≡ N
+    pub many_entries : top_entries shape ≡ N
     many_entries = ap (λ n. 2 ^ n) (omega (arith, nested.shaped.nest_is))
 
     nested_kind : is_nested shape ≡ true
     nested_kind = let is = nested.shaped.nest_is in lt-ltb 0 (unpacked shape).nest (omega (arith, is))
 
     -- an entry of a page of entries leads where its word does
-    read_of : (part : Part) (q index : ℕ) → index < 64 → page q ≡ PageOf τ → table.part q ≡ part → has_entries part ≡ true
+    pub read_of : (part : Part) (q index : ℕ) → index < 64 → page q ≡ PageOf τ → table.part q ≡ part → has_entries part ≡ true
         → page_of g.pages (page_word g words (64 * q + index)) ≡ table.entry (64 * q + index)
     read_of part q index l of is has =
         entry_read env mix table page τ (inr nested) (λ j. mem env mix words (PageWord j)) reads nested part q index l of is has
@@ -111,7 +111,7 @@ module _ (env : Env) (mix : ℕ → ℕ → ℕ → ℕ) (words : List ℕ) wher
         sym (read_of Top (first_page shape) on.index (omega (arith, below, some, many)) nested.top_of nested.top_part refl)
         ∙ ap (λ t. page_of g.pages (page_word g words (64 * t + on.index))) (sym top_is) ∙ on.leads
 
-    top_leads_to : (low p : ℕ) → low < N → table.entry (64 * first_page shape + low) ≡ Some p
+    pub top_leads_to : (low p : ℕ) → low < N → table.entry (64 * first_page shape + low) ≡ Some p
         → LeadsOn g words (top_page g shape) (top_entries shape) p
     top_leads_to low p l entry = record {
       index = low;
@@ -174,7 +174,32 @@ module _ (env : Env) (mix : ℕ → ℕ → ℕ → ℕ) (words : List ℕ) wher
         go (Middle low) at = inr (inl (top_leads_to low p at.below at.entered))
         go Top at = inl (at ∙ sym top_is)
 
+    -- each of its entries is in a page of its own that has entries
+    entry_of_nested : (index : ℕ) → IsEntryOfTable g words shape index
+        → (page (index / 64) ≡ PageOf τ) × (has_entries (table.part (index / 64)) ≡ true)
+    entry_of_nested index of = elim of.entry [
+      | inl top ↦ (
+        ap page (top.page ∙ top_is) ∙ nested.top_of,
+        ap (λ q. has_entries (table.part q)) (top.page ∙ top_is) ∙ ap has_entries nested.top_part,
+      )
+      | inr lower ↦
+          let on = lower.above in
+          let l : on.index < N = (let k = on.below in let many = many_entries in omega (arith, k, many)) in
+          let middle = middle_part on.index (index / 64) l lower.deep (from_top (index / 64) on) in
+          (middle.0, ap has_entries middle.1)
+    ]
+
   -- ---- a table that is there
+
+  -- its entries are in pages of its own that have entries
+  pub entry_in_words : (G : Ghost) → Whole env mix (mem env mix words) G → (τ : ℕ) → IsThere G τ → (index : ℕ)
+      → IsEntryOfTable g words (G.table τ).shape index
+      → (G.page (index / 64) ≡ PageOf τ) × (has_entries ((G.table τ).part (index / 64)) ≡ true)
+  entry_in_words G whole τ there index of = elim (whole.tables.each τ there).placed [
+    | inl flat ↦ absurd (both_ways (is_nested (G.table τ).shape) (flat_kind (G.table τ) G.page τ flat) of.nested)
+    | inr nested ↦
+        entry_of_nested (G.table τ) G.page τ nested (entries_read env mix (mem env mix words) G whole τ there) index of
+  ]
 
   pub pages_in_words : (G : Ghost) → Whole env mix (mem env mix words) G → (τ : ℕ) → IsThere G τ → (p : ℕ)
       → IsPageOfTable g words (G.table τ).shape p ↔ (G.page p ≡ PageOf τ)

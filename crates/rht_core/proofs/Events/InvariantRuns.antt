@@ -5,7 +5,7 @@ use Rattle.std.specs.Int.{bit_at}
 use Rattle.std.proofs.lemmas.Bool.{cases_eq, cases_lt, lt-ltb, le-ltb, ne_eqb}
 use Rattle.std.proofs.lemmas.List.{length-replicate}
 use Rattle.rht_words.specs.declared.env.Env.{Env}
-use Rattle.rht_words.specs.Places.{Address, CurrentTable, PortCount, Slot, ShapeWord, SeedWord, FutureWord, SerialWord, NodeMap, PageWord, IsAddress, WorkLock, StateWord, PageMap}
+use Rattle.rht_words.specs.Places.{Address, CurrentTable, PortCount, Section, Slot, ShapeWord, SeedWord, FutureWord, SerialWord, NodeMap, PageWord, IsAddress, WorkLock, StateWord, PageMap}
 use Rattle.rht_words.specs.declared.shape.Shape.{Shape}
 use Rattle.rht_words.specs.Shapes.{size_of, unpacked}
 use Rattle.rht_words.specs.Opening.{opening_word, opening_words, first_pages, first_shape}
@@ -18,7 +18,7 @@ use Rattle.rht_callers.specs.Locals.{fresh}
 use Rattle.rht_core.specs.Runs.{Core, World, local_in, opening, opening_core, run_of, IsAdmitted}
 use Rattle.rht_core.proofs.Events.Worlds.{run_keeps_admitted}
 use Rattle.rht_core.proofs.Events.RangesInRuns.{AllIn, opens-all, event-all}
-use Rattle.rht_ghost.proofs.Theory.Ghosts.{Free, is_taken_by, Ghost, Table, PageOf, SlotFree, Live, is_first, has_table, table_of_slot, put, put-same, put-other, blank_bucket, PageOwner, PageFree, PageHeld, SlotHeld, state_word, put-all, Row, is_entry, is_entry_of}
+use Rattle.rht_ghost.proofs.Theory.Ghosts.{Free, is_taken_by, Ghost, Table, PageOf, SlotFree, Live, Back, is_first, has_table, table_of_slot, slot_holder, put, put-same, put-other, blank_bucket, PageOwner, PageFree, PageHeld, state_word, put-all, Row, is_entry, is_entry_of}
 use Rattle.rht_ghost.proofs.Theory.Wholes.{Whole, TableRight, PagesRight, IsThere, live-there}
 use Rattle.rht_ghost.proofs.Theory.Steps.{mem}
 use Rattle.rht_core.proofs.Events.Invariants.{Inv, kept}
@@ -52,6 +52,7 @@ opening_ghost env = record {
   slot = put (λ s. SlotFree) 0 (Live 0);
   worker = None;
   raised = λ c. false;
+  from = λ c. None;
 }
 
 first_page : (env : Env) (p : ℕ) → p < first_pages env → opening_page env p ≡ PageOf 0
@@ -169,12 +170,24 @@ module _ (env : Env) (mix : ℕ → ℕ → ℕ → ℕ) where
             ]),
           )
 
+  -- no slot is given back
+  not_back : (s c : ℕ) → (opening_ghost env).slot s ≡ Back c → (opening_ghost env).worker ≡ Some c
+  not_back s c = put-all (λ s o. o ≡ Back c → (opening_ghost env).worker ≡ Some c) (λ s. SlotFree) 0 (Live 0) (λ e. absurd (cc))
+      (λ s ne e. absurd (cc)) s
+
   pub opening_whole : Whole env mix (mem env mix (opening_words env)) (opening_ghost env)
   opening_whole = record {
     slots = record {
       states = opening_states;
       worker_is = opened WorkLock tt;
       retired = λ idle s τ live l. absurd (omega (arith, l));
+      back = not_back;
+    };
+    sections = record {
+      words = λ c low. ap (λ w. w % 2) (opened (Section c) low);
+      callers = λ c low is. absurd (cc);
+      kept = λ s τ c low is since. absurd since;
+      locked = λ j c is. absurd (cc);
     };
     pages = opening_pages;
     moving = record { armed = λ j c is. absurd (cc); out = λ j entry is. absurd (cc) };
@@ -182,7 +195,6 @@ module _ (env : Env) (mix : ℕ → ℕ → ℕ → ℕ) where
       current_in = omega arith;
       current_is = opened CurrentTable tt;
       force = λ τ from l. opening_live τ l;
-      there = λ τ l. live-there env mix (opening_ghost env) τ (opening_live τ l);
       each = opening_table;
       slots = λ s has. rw (slots_at_opening s has) (record {
         attached =
@@ -217,8 +229,8 @@ module _ (env : Env) (mix : ℕ → ℕ → ℕ → ℕ) where
   }
 
   -- nobody has a slot or a page
-  no_slot_held : (s c : ℕ) → (opening_ghost env).slot s ≡ SlotHeld c → ⊥
-  no_slot_held s c = put-all (λ s o. o ≡ SlotHeld c → ⊥) (λ s. SlotFree) 0 (Live 0) (λ e. absurd (cc))
+  no_slot_held : (s c : ℕ) → slot_holder ((opening_ghost env).slot s) ≡ Some c → ⊥
+  no_slot_held s c = put-all (λ s o. slot_holder o ≡ Some c → ⊥) (λ s. SlotFree) 0 (Live 0) (λ e. absurd (cc))
       (λ s ne e. absurd (cc)) s
 
   no_page_held : (p c : ℕ) → opening_page env p ≡ PageHeld c → ⊥
@@ -247,6 +259,7 @@ module _ (env : Env) (mix : ℕ → ℕ → ℕ → ℕ) where
           slots = λ s held. absurd (no_slot_held s c held);
           pages_in = λ p held. absurd (no_page_held p c held);
           works = λ works. absurd (cc);
+          reads = tt;
         };
         means = record { node = tt; table = tt; bucket = tt; making = tt; work = tt };
       });

@@ -28,7 +28,7 @@ use Rattle.rht_ghost.proofs.Theory.Wholes.{outs, Whole}
 use Rattle.rht_ghost.proofs.Theory.Answering.{outs_of}
 use Rattle.rht_ghost.proofs.Theory.Frames.{StaleStay, stale_write, same_owners}
 use Rattle.rht_ghost.proofs.Theory.Reliance.{Rely}
-use Rattle.rht_ghost.proofs.Theory.Steps.{mem, ghost_after}
+use Rattle.rht_ghost.proofs.Theory.Steps.{mem, ghost_after, other_sections}
 use Rattle.rht_ghost.proofs.Moves.Quiet.{aside}
 use Rattle.rht_core.proofs.Events.TidiedNodes.{given_of, given_next}
 use Rattle.rht_core.proofs.Events.OwnBatches.{BatchRight, idle-owns, begun-right, stepped-right, stepped-given, others-right}
@@ -147,7 +147,8 @@ module _ (env : Env) (mix : ℕ → ℕ → ℕ → ℕ) where
                   (rw left (knows-told env mix c (job_after mix env of.job old) M' G' step.knows)))
               | inr ne ↦ rw (get_or-set_other core.locals c k next (fresh core.env) ne)
                   (Knows-rely env mix k (job_of (local_of core k).doing) (mem env mix core.words) M' G G'
-                  inv.whole (step.made.others k ne) (inv.each k))
+                  inv.whole (other_sections env mix c k step.move (mem env mix core.words) G step.ready ne) (step.made.others k ne)
+                  (inv.each k))
             ];
             batches = λ k. elim (cases_eq k c) [
               | inl e ↦ rw e (rw (get_or-set_same core.locals c next (fresh core.env) place)
@@ -190,7 +191,7 @@ module _ (env : Env) (mix : ℕ → ℕ → ℕ → ℕ) where
         let kept = aside env mix EnrolledCallers
         (word_after (word_at env.geometry core.words EnrolledCallers) op)
         (mem env mix core.words) (mem env mix (applied core.words op)) G inv.whole write
-        (record { current = λ e. cc; work = λ e. cc; slots = λ s w e. cc; pages = λ i e. cc }) (λ j e. cc) (λ n w e. cc) (λ i e. cc)
+        (record { current = λ e. cc; work = λ e. cc; sections = λ c e. cc; slots = λ s w e. cc; pages = λ i e. cc }) (λ j e. cc) (λ n w e. cc) (λ i e. cc)
         (λ e. cc) in (
           kept.0,
           kept.1,
@@ -208,7 +209,7 @@ module _ (env : Env) (mix : ℕ → ℕ → ℕ → ℕ) where
             same_env = inv.same_env;
             whole = kept.0;
             each = λ k. Knows-rely env mix k (job_of (local_of core k).doing) (mem env mix core.words) M' G G
-                inv.whole (kept.1 k) (inv.each k);
+                inv.whole refl (kept.1 k) (inv.each k);
             batches = inv.batches;
           };
           outs_kept = λ k. refl;

@@ -9,13 +9,13 @@ use Rattle.rht_core.specs.Jobs.{Job, job_of}
 use Rattle.rht_core.specs.Runs.{Core, local_of, enrolling}
 use Rattle.rht_ghost.proofs.Theory.Ghosts.{Ghost}
 use Rattle.rht_ghost.proofs.Theory.Wholes.{Whole, at-there}
-use Rattle.rht_ghost.proofs.Theory.Passed.{home-stays, less-grown}
+use Rattle.rht_ghost.proofs.Theory.Passed.{home-from, less-grown}
 use Rattle.rht_model.specs.Answers.{Answer}
 use Rattle.rht_ghost.proofs.Theory.Knowns.{KnownTable, OnWay}
 use Rattle.rht_ghost.proofs.Theory.Knowledge.{TableMeans}
-use Rattle.rht_ghost.proofs.Theory.WaysStay.{IsWayTo-stay}
+use Rattle.rht_ghost.proofs.Theory.WaysStay.{IsWayTo-from}
 use Rattle.rht_ghost.proofs.Theory.WaysRead.{placed-stays}
-use Rattle.rht_ghost.proofs.Theory.Reliance.{Rely}
+use Rattle.rht_ghost.proofs.Theory.Reliance.{Rely, since-low}
 use Rattle.rht_ghost.proofs.Theory.Steps.{mem}
 use Rattle.rht_ghost.proofs.Pieces.Locates.{IsThereFor}
 use Rattle.rht_core.proofs.Machines.JobSteps.{known_of, early_of, IsThere, JobKnows}
@@ -26,18 +26,20 @@ module _ (env : Env) (mix : ℕ → ℕ → ℕ → ℕ) where
   module _ (c : ℕ) (M M' : Memory) (G G' : Ghost) (whole : Whole env mix M G) (whole' : Whole env mix M' G')
       (rely : Rely env mix c M G M' G') where
     -- the page outlives a step of anybody else: entries that lead to a page lead there still
-    there-stays : (early : Option Answer) (known : KnownTable) → TableMeans env mix G known
+    there-stays : (early : Option Answer) (known : KnownTable) → TableMeans env mix c G known
         → IsThereFor early known M → IsThereFor early known M'
     there-stays None known means there = there
     there-stays (Some answer) (OnWay port slot shape place further) means there =
         let passing = means.shaped.passing in
         let at = passing.at in
-        let grow = rely.tables.grow in
-        let there_is = at-there env mix whole.tables slot at in
+        let stay = rely.tables in
+        let grow = stay.grow in
+        let from = since-low env mix stay c at.table passing.since in
+        let there_is = at-there at in
         placed-stays env mix M M' G G' whole whole' port at.table place there_is
-        (grow.there at.table (less-grown env mix at.attached grow.attached) (λ l. there_is)) means.to
-        (IsWayTo-stay env mix G G' grow port at.table place at.attached means.to)
-        (λ j here. home-stays env mix G G' grow port at.table j at.attached here) there
+        (grow.there at.table from (less-grown env mix at.attached grow.attached) (λ l. there_is)) means.to
+        (IsWayTo-from env mix stay.low G G' grow port at.table place at.attached from means.to)
+        (λ j here. home-from env mix stay.low G G' grow port at.table j at.attached from here) there
     there-stays (Some answer) _ means there = there
 
     pub IsThere-rely : (job : Job) → JobKnows env mix c job M G → IsThere job M → IsThere job M'

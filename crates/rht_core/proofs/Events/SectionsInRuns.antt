@@ -14,7 +14,7 @@ use Rattle.rht_words.specs.declared.geometry.Geometry.{Geometry}
 use Rattle.rht_words.specs.declared.machine.Next.{Next}
 use Rattle.rht_words.specs.declared.machine.Next.TheVariants.{Go, Done}
 use Rattle.rht_words.specs.Operations.{op_place, old_of, word_after, applied}
-use Rattle.rht_words.specs.Places.{Section, FutureWord, StateWord, PageMap, Node, NodeWord, ChainLink, PageWord, nodes_at, slot_offset, place_of, word_at, words_in}
+use Rattle.rht_words.specs.Places.{Section, FutureWord, StateWord, LoadedSection, PageMap, Node, NodeWord, ChainLink, PageWord, nodes_at, slot_offset, place_of, word_at, words_in}
 use Rattle.rht_words.proofs.Memory.{Memory, is_write}
 use Rattle.rht_words.proofs.OpeningLaws.{stand_in_place}
 use Rattle.rht_words.proofs.PlacesApart.{parts_in_order}
@@ -32,7 +32,7 @@ use Rattle.rht_core.specs.Jobs.{Job, job_after, job_of, told, held_of, held_next
 use Rattle.rht_core.specs.Runs.{Core, World, core_step, with_step, with_machine, local_of, beginning_in, run_of, opening, planned_in, enrolling, IsAdmitted, IsAdmittedEvent}
 use Rattle.rht_core.specs.Sections.{IsInNoSection, Sections, AddsToOwn, OwnSections}
 use Rattle.rht_ghost.proofs.Theory.Ghosts.{Ghost}
-use Rattle.rht_ghost.proofs.Theory.Steps.{bare, Holding, mem, LeavesBits, IsAside, Move, Quiet, TakesNode, GivesNode, TakesLock, DropsLock, Raises, Links, Lowers, Rebinds, LinksBehind, Arms, TakesSlot, GivesSlot, TakesPages, GivesPages, TakesWork, GivesWork, BeginsMoving, TakesSecond, Leaves, Arrives, CutsOff, Publishes, Retires, Opens, Closes, ReturnsNode, ReadyFor, Does}
+use Rattle.rht_ghost.proofs.Theory.Steps.{bare, Holding, mem, LeavesBits, IsAside, Move, Quiet, TakesNode, GivesNode, TakesLock, DropsLock, Raises, Links, Lowers, Rebinds, LinksBehind, Arms, TakesSlot, GivesSlot, TakesPages, GivesPages, TakesWork, GivesWork, BeginsMoving, TakesSecond, Leaves, Arrives, CutsOff, Publishes, Retires, KeepsWord, Settles, Withdraws, TakesBack, Opens, Closes, ReturnsNode, ReadyFor, Does}
 use Rattle.rht_ghost.proofs.Theory.Steps as moves
 use Rattle.rht_core.proofs.Events.Worlds.{beginning-some, planned-some, run_keeps_admitted}
 use Rattle.rht_core.proofs.Events.SoundRuns.{has_place, made_in}
@@ -130,7 +130,11 @@ module _ (env : Env) (mix : ℕ → ℕ → ℕ → ℕ) (c : ℕ) (M : Memory) 
   by_move (CutsOff j entry (Some before)) ready does = keeps (at_node g op old before ChainLink does.on) does.holds refl
   by_move Publishes ready does = keeps (first_word g op old 0 (omega arith) does.on) does.holds refl
   by_move (Retires s) ready does = keeps (at_slot g op old s (slot_offset StateWord) (ap op_place does.retiring)) does.holds refl
-  by_move (Opens d) ready does = inr (subst TurnsSection ready (record {
+  by_move (KeepsWord s d word) ready does = keeps (at_slot g op old s (slot_offset (LoadedSection d)) (ap op_place does.keeping)) does.holds refl
+  by_move (Settles s d word) ready does = keeps (at_slot g op old s (slot_offset (LoadedSection d)) (ap op_place does.keeping)) does.holds refl
+  by_move (Withdraws j p) ready does = keeps (in_pages g op old j (ap op_place does.clearing)) does.holds refl
+  by_move (TakesBack s index bits) ready does = keeps (in_page_map g op old index does.sets.on) does.holds refl
+  by_move (Opens d) ready does = inr (subst TurnsSection ready.0 (record {
     adds = does.turns;
     turns = sum_is _ _ (ap odd_by does.outside) (ap (λ (x : Holding). odd_by x.section) does.holds);
   }))
@@ -255,7 +259,7 @@ module _ (env : Env) (mix : ℕ → ℕ → ℕ → ℕ) where
         (fresh core.env) core.locals c (begin_with (local_of core c) machine) place
         (λ low. right c low ∙ ap odd_by (idle ∙ sym begun)) right
 
-    event_right : (core : Core L) (event : Event) → HasInv env mix L core
+    pub event_right : (core : Core L) (event : Event) → HasInv env mix L core
         → AreRight core → AreRight (core_step mix core event).0
     event_right core Enroll has right =
         λ c low. spared core.words (enrolling core.env) has.all.stays.all_words (inl (omega arith)) c low ∙ right c low

@@ -42,12 +42,12 @@ module _ (env : Env) (mix : ℕ → ℕ → ℕ → ℕ) where
   Knows c (Some job) M G = JobKnows env mix c job M G
 
   pub Knows-rely : (c : ℕ) (job : Option Job) (M M' : Memory) (G G' : Ghost) → Whole env mix M G
-      → Rely env mix c M G M' G'
+      → G'.from c ≡ G.from c → Rely env mix c M G M' G'
       → Knows c job M G → Knows c job M' G'
-  Knows-rely c None M M' G G' whole rely knows =
-      Knowing-rely env mix c M M' G G' holds_no known_nothing whole rely knows
-  Knows-rely c (Some job) M M' G G' whole rely knows = JobKnows-rely env mix c job M M' G G'
-      whole rely knows
+  Knows-rely c None M M' G G' whole from rely knows =
+      Knowing-rely env mix c M M' G G' holds_no known_nothing whole from rely knows
+  Knows-rely c (Some job) M M' G G' whole from rely knows = JobKnows-rely env mix c job M M' G G'
+      whole from rely knows
 
   -- what a caller knows after an operation is what the job that is left says
   pub knows-told : (c : ℕ) (r : Job × Next Ending) (M : Memory) (G : Ghost) → JobNext env mix c r M G

@@ -1,6 +1,6 @@
 -- How many operations a look-up has made in each of its states. In a table each operation leaves fewer to come (`lessens`), tables come in
 -- the order in which they were attached, and from the first one on there are at most eight, since these all have their slots.
-use Rattle.std.proofs.Common.{◌≡◌, ℕ, ◌+◌, ◌*◌, ◌<◌, ◌≤◌, nat_lt, Bool, List, Option, Some, None, refl, sym, subst, arith}
+use Rattle.std.proofs.Common.{◌≡◌, ℕ, ◌+◌, ◌*◌, ◌<◌, ◌≤◌, nat_lt, Bool, true, List, Option, Some, None, refl, sym, subst, inl, inr, arith}
 use Rattle.std.specs.Prelude.{◌==◌}
 use Rattle.std.proofs.Math.Nat.{mul-le-mul_right}
 use Rattle.std.proofs.lemmas.Bool.{cond_both}
@@ -23,10 +23,13 @@ use Rattle.rht_find.specs.declared.find.Head.{Head}
 use Rattle.rht_find.specs.declared.find.FindAt.{FindAt}
 use Rattle.rht_find.specs.declared.find.FindAt.TheVariants as at
 use Rattle.rht_find.proofs.FindBounds.{lessens}
-use Rattle.rht_ghost.proofs.Theory.Ghosts.{Ghost}
-use Rattle.rht_ghost.proofs.Theory.Wholes.{Whole, IsAt, AreThereFrom, force-there, one_slot}
-use Rattle.rht_ghost.proofs.Theory.Passed.{TablesGrow, at-stays, there_from-grows}
-use Rattle.rht_ghost.proofs.Theory.Knowledge.{next_at}
+use Rattle.rht_ghost.proofs.Theory.Ghosts.{Ghost, IsSince}
+use Rattle.rht_ghost.proofs.Theory.Wholes.{Whole, IsAt, AreThereFrom, current-at, force-there, one_slot}
+use Rattle.rht_ghost.proofs.Theory.Passed.{at-from, there_from-from}
+use Rattle.rht_ghost.proofs.Theory.Reliance.{TablesStay, since-low}
+use Rattle.rht_ghost.proofs.Theory.Steps.{SectionTurns}
+use Rattle.rht_core.specs.Jobs.{finds, held_of}
+use Rattle.rht_ghost.proofs.Theory.Knowledge.{ReadsFrom, since-current, next_at}
 use Rattle.rht_ghost.proofs.Theory.Steps.{mem}
 use Rattle.rht_ghost.proofs.Pieces.TableLoads.{LeadsBehind, future_leads}
 use Rattle.rht_core.proofs.Meaning.TablesInForce.{current_slot}
@@ -73,7 +76,7 @@ at_most made most most' few more = omega (arith, few, more)
 
 -- ---- by states
 
-module _ (env : Env) where
+module _ (env : Env) (c : ℕ) where
   abbrev left_at : FindAt → ℕ
   left_at = left_in_table env
 
@@ -81,10 +84,12 @@ module _ (env : Env) where
   abbrev most_at : ℕ → ℕ
   most_at count = most_in (table_steps env) count
 
-  -- so many are within those of the table that this slot has, by how many tables it is behind one of which all behind it are there
+  -- so many are within those of the table that this slot has, by how many tables it is behind one to which the caller's section comes, and
+  -- of which all behind it are there
   pub record IsWithin (G : Ghost) (slot made : ℕ) : Type 0 where
     pub at : IsAt G slot
     pub low : ℕ
+    pub since : IsSince (G.from c) low
     pub on : AreThereFrom G low
     pub count : ℕ
     pub behind : low + count ≡ at.table
@@ -117,7 +122,7 @@ module _ (env : Env) where
   -- the same of another number
   with_few : {G : Ghost} {slot made more : ℕ} (is : IsWithin G slot made) → more ≤ most_at is.count → IsWithin G slot more
   with_few is few =
-      record { at = is.at; low = is.low; on = is.on; count = is.count; behind = is.behind; few = few }
+      record { at = is.at; low = is.low; since = is.since; on = is.on; count = is.count; behind = is.behind; few = few }
 
   -- where so many were left, one more was made and fewer are left
   spent_in : (G : Ghost) (slot made left : ℕ) (state : FindAt) → IsOfTable slot state → (is : IsWithin G slot (made + left))
@@ -183,7 +188,7 @@ module _ (env : Env) where
           own = λ τ σ from less l same.
               let first = on τ from (omega (arith, less, l, all)) in
               let second = on σ (omega (arith, from, less)) (omega (arith, l, all)) in
-              let both = one_slot env mix G τ σ first second same in
+              let both = one_slot G τ σ first second same in
               omega (arith, less, both);
         })
 
@@ -200,8 +205,9 @@ module _ (env : Env) where
         (at_most made (most_at is.count) (most_in (table_steps env) 7) is.few
         (most_in-seven (table_steps env) is.count (low_index table made is)))
     future_spent table made is (Some next) behind = record {
-      at = next_at env mix G is.at.table next behind;
+      at = next_at env mix G is.at.table next is.at.on behind;
       low = is.low;
+      since = is.since;
       on = is.on;
       count = is.count + 1;
       behind = omega (arith, is.behind);
@@ -210,51 +216,49 @@ module _ (env : Env) where
 
     -- the current table
     abbrev current_at : IsAt G (table_of (M CurrentTable))
-    current_at = record {
-      table = G.current;
-      attached = whole.tables.current_in;
-      slot_is = sym (current_slot env mix words G whole);
-    }
+    current_at = current-at env mix whole.tables (table_of (M CurrentTable)) (sym (current_slot env mix words G whole))
 
     -- but the last one, behind which the call has ended
     pub spent_leads : (caller made : ℕ) (state : FindAt) → says state ≡ Go → IsFindAtIn env state
         → LookMeans env mix port seen since Says M G P state → IsSpent G state made
+        → (state ≡ at.CurrentTable → ReadsFrom true (G.from c) G.current)
         → IsSpent G (goes mix env port state (old_of words (plan_at env caller state))) (made + 1)
-    spent_leads caller made at.Opening goes_on within known few = omega (arith, few)
-    spent_leads caller made at.CurrentTable goes_on within known few =
+    spent_leads caller made at.Opening goes_on within known few reads = omega (arith, few)
+    spent_leads caller made at.CurrentTable goes_on within known few reads =
         record {
           at = current_at;
           low = G.current;
+          since = since-current (G.from c) G.current (reads refl);
           on = force-there env mix whole.tables;
           count = 0;
           behind = omega arith;
           few = most_in-first (table_steps env) 0 made few;
         }
-    spent_leads caller made (at.Locating reach) goes_on within known few =
+    spent_leads caller made (at.Locating reach) goes_on within known few reads =
         let word = old_of words (reach_plan reach) in
         let r = reach_after mix port reach word in
         spent_in G reach.table made (left_at (at.Locating reach)) (reached env r.0 r.1)
         (subst (λ s. IsOfTable s (reached env r.0 r.1)) (reach_after-table mix port reach word) (reached-of r.0 r.1))
         few (low_index reach.table _ few) (lessens mix env port (at.Locating reach) word within tt)
-    spent_leads caller made (at.Heading head) goes_on within known few =
+    spent_leads caller made (at.Heading head) goes_on within known few reads =
         let word = old_of words (plan_at env caller (at.Heading head)) in
         let link = head_of head.place word in
         spent_in G head.table made (left_at (at.Heading head)) _
         (led_to-of head 0 link (node_of env.geometry.nodes link))
         few (low_index head.table _ few) (lessens mix env port (at.Heading head) word within tt)
-    spent_leads caller made (at.Key head node visited) goes_on within known few =
+    spent_leads caller made (at.Key head node visited) goes_on within known few reads =
         let word = old_of words (plan_at env caller (at.Key head node visited)) in
         spent_in G head.table made (left_at (at.Key head node visited)) _ (compared-of port head node visited word)
         few (low_index head.table _ few) (lessens mix env port (at.Key head node visited) word within tt)
-    spent_leads caller made (at.Link head node visited) goes_on within known few =
+    spent_leads caller made (at.Link head node visited) goes_on within known few reads =
         let link = old_of words (plan_at env caller (at.Link head node visited)) in
         spent_in G head.table made (left_at (at.Link head node visited)) _
         (led_to-of head visited link (node_of env.geometry.nodes link))
         few (low_index head.table _ few) (lessens mix env port (at.Link head node visited) link within tt)
-    spent_leads caller made (at.Future table) goes_on within known few =
+    spent_leads caller made (at.Future table) goes_on within known few reads =
         future_spent table made few (slot_of (M (Slot table FutureWord))) (future_leads env mix M G whole table few.at)
-    spent_leads caller made (at.Owner node) goes_on within known few = most_in-all (table_steps env) made few
-    spent_leads caller made (at.Closing reply) goes_on within known few = absurd (cc)
+    spent_leads caller made (at.Owner node) goes_on within known few reads = most_in-all (table_steps env) made few
+    spent_leads caller made (at.Closing reply) goes_on within known few reads = absurd (cc)
 
     -- so many are within the bound, in whatever state
     pub spent_most : (made : ℕ) (state : FindAt) → LookMeans env mix port seen since Says M G P state → IsSpent G state made
@@ -275,25 +279,36 @@ module _ (env : Env) where
     spent_most made (at.Closing reply) known few = few
 
     -- and it stays so behind an operation of anybody else
-    module _ (G' : Ghost) (grow : TablesGrow env mix G G') where
-      same_most : (slot count : ℕ) → IsWithin G slot count → IsWithin G' slot count
-      same_most slot count is = record {
-        at = at-stays env mix G G' grow slot is.at;
-        low = is.low;
-        on = there_from-grows env mix G G' grow is.low is.on;
-        count = is.count;
-        behind = is.behind;
-        few = is.few;
-      }
+    module _ (G' : Ghost) (stay : TablesStay env mix G G') (turned : SectionTurns env mix c G G') where
+      -- a section that is open behind it comes to what it came to
+      since_then : (τ : ℕ) → ReadsFrom true (G'.from c) G'.current → IsSince (G.from c) τ → IsSince (G'.from c) τ
+      since_then τ reads since = elim turned [
+        | inl same ↦ subst (λ f. IsSince f τ) (sym same) since
+        | inr (inl opened) ↦ absurd (subst (λ f. IsSince f τ) opened.0 since)
+        | inr (inr closed) ↦ absurd (subst (λ f. ReadsFrom true f G'.current) closed reads)
+      ]
 
-      pub spent_stays : (made : ℕ) (state : FindAt) → LookMeans env mix port seen since Says M G P state → IsSpent G state made
-          → IsSpent G' state made
-      spent_stays made at.Opening known few = few
-      spent_stays made at.CurrentTable known few = few
-      spent_stays made (at.Locating reach) known few = same_most reach.table _ few
-      spent_stays made (at.Heading head) known few = same_most head.table _ few
-      spent_stays made (at.Key head node visited) known few = same_most head.table _ few
-      spent_stays made (at.Link head node visited) known few = same_most head.table _ few
-      spent_stays made (at.Future table) known few = same_most table _ few
-      spent_stays made (at.Owner node) known few = few
-      spent_stays made (at.Closing reply) known few = few
+      same_most : (slot count : ℕ) → ReadsFrom true (G'.from c) G'.current → IsWithin G slot count → IsWithin G' slot count
+      same_most slot count reads is =
+          let from = since-low env mix stay c is.low is.since in
+          record {
+            at = at-from env mix stay.low G G' stay.grow slot is.at (omega (arith, from, is.behind));
+            low = is.low;
+            since = since_then is.low reads is.since;
+            on = there_from-from env mix stay.low G G' stay.grow is.low from is.on;
+            count = is.count;
+            behind = is.behind;
+            few = is.few;
+          }
+
+      pub spent_stays : (made : ℕ) (state : FindAt) → ReadsFrom (held_of (finds port state)).section (G'.from c) G'.current
+          → LookMeans env mix port seen since Says M G P state → IsSpent G state made → IsSpent G' state made
+      spent_stays made at.Opening reads known few = few
+      spent_stays made at.CurrentTable reads known few = few
+      spent_stays made (at.Locating reach) reads known few = same_most reach.table _ reads few
+      spent_stays made (at.Heading head) reads known few = same_most head.table _ reads few
+      spent_stays made (at.Key head node visited) reads known few = same_most head.table _ reads few
+      spent_stays made (at.Link head node visited) reads known few = same_most head.table _ reads few
+      spent_stays made (at.Future table) reads known few = same_most table _ reads few
+      spent_stays made (at.Owner node) reads known few = few
+      spent_stays made (at.Closing reply) reads known few = few

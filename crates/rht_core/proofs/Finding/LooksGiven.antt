@@ -10,8 +10,8 @@ use Rattle.rht_find.specs.FindStanding.{standing_of_find}
 use Rattle.rht_find.specs.declared.find.FindAt.{FindAt}
 use Rattle.rht_find.specs.declared.find.FindAt.TheVariants as at
 use Rattle.rht_ghost.proofs.Theory.Ghosts.{Free, Taken, Ghost, seat_of, seat_in, seat, with_owner}
-use Rattle.rht_ghost.proofs.Theory.Wholes.{word_index, Whole}
-use Rattle.rht_ghost.proofs.Theory.Passed.{TablesGrow}
+use Rattle.rht_ghost.proofs.Theory.Wholes.{word_index, Whole, IsAt, AreFrom}
+use Rattle.rht_ghost.proofs.Theory.Passed.{GrowsFrom}
 use Rattle.rht_core.proofs.Finding.Places.{Places, PlacesRight}
 use Rattle.rht_core.proofs.Finding.Deaths.{IsLate, late_used}
 use Rattle.rht_core.proofs.Finding.Finders.{IsBeyond, IsUnder, HasVisited, IsAhead, IsBelow}
@@ -59,6 +59,15 @@ module _ (env : Env) (mix : ℕ → ℕ → ℕ → ℕ) (now c n : ℕ) (M M' :
   late m is =
       late_then env mix now c n M M' G P whole right mine same met unmet since m
       (met_kept env mix now c n M M' G P whole right mine same met unmet m (seen_met m is))
+
+  -- tables are what they were
+  abbrev at_then : (slot : ℕ) → IsAt G slot → IsAt G' slot
+  at_then slot at = record {
+    table = at.table;
+    attached = at.attached;
+    slot_is = at.slot_is;
+    on = λ σ from l. let there = at.on σ from l in record { has_slot = there.has_slot; index = there.index };
+  }
 
   -- ---- the port
 
@@ -130,25 +139,25 @@ module _ (env : Env) (mix : ℕ → ℕ → ℕ → ℕ) (now c n : ℕ) (M M' :
     pub stage_then : (stage : Stage) → AllByRecursion (λ m. seen m ≡ true) (node_at stage)
         → StageMeans env mix port seen since Said M G P stage → StageMeans env mix port seen since Said' M' G' P' stage
     stage_then (Reaching slot) stood (of, known) = (
-      record { table = of.table; attached = of.attached; slot_is = of.slot_is },
+      at_then slot of,
       or_so (toward_then _) known,
     )
     stage_then (Heading slot j) stood (at, known) = (
-      record { of = record { table = at.of.table; attached = at.of.attached; slot_is = at.of.slot_is }; here = at.here },
+      record { of = at_then slot at.of; here = at.here },
       or_so (either (λ sits. same_port ∙ sits) (beyond_then _)) known,
     )
     stage_then (AtKey slot j m visited) stood (at, was_late, known) = (
-      record { of = record { table = at.of.table; attached = at.of.attached; slot_is = at.of.slot_is }; here = at.here },
+      record { of = at_then slot at.of; here = at.here },
       late m stood.0 was_late,
       or_so (either (ahead_then j m visited stood.0) (beyond_then _)) known,
     )
     stage_then (AtLink slot j m visited) stood (at, was_late, known) = (
-      record { of = record { table = at.of.table; attached = at.of.attached; slot_is = at.of.slot_is }; here = at.here },
+      record { of = at_then slot at.of; here = at.here },
       late m stood.0 was_late,
       or_so (either (below_then j m visited stood.0) (beyond_then _)) known,
     )
     stage_then (Ending slot) stood (of, known) = (
-      record { table = of.table; attached = of.attached; slot_is = of.slot_is },
+      at_then slot of,
       or_so (beyond_then _) known,
     )
     stage_then (Owning m) stood (was_late, key) = (
@@ -158,28 +167,30 @@ module _ (env : Env) (mix : ℕ → ℕ → ℕ → ℕ) (now c n : ℕ) (M M' :
 
   -- ---- and its states
 
-  module _ (grow : TablesGrow env mix G G') (Says Says' : Reply → Type 0) (said : (reply : Reply) → Says reply → Says' reply) where
+  module _ (low : ℕ) (grow : GrowsFrom env mix low G G') (Says Says' : Reply → Type 0)
+      (said : (reply : Reply) → Says reply → Says' reply) where
     stays : (stage : Stage) → AllByRecursion (λ m. seen m ≡ true) (node_at stage)
         → StageMeans env mix port seen since (Says Missing) M G P stage → StageMeans env mix port seen since (Says' Missing) M' G' P' stage
     stays = stage_then (Says Missing) (Says' Missing) (said Missing)
 
     pub look_given : (state : FindAt) → AllByRecursion (λ m. seen m ≡ true) (standing_of_find state).nodes
+        → AreFrom low G (standing_of_find state).tables
         → LookMeans env mix port seen since Says M G P state → LookMeans env mix port seen since Says' M' G' P' state
-    look_given at.Opening stood known = tt
-    look_given at.CurrentTable stood known = tt
-    look_given (at.Locating reach) stood known =
+    look_given at.Opening stood from known = tt
+    look_given at.CurrentTable stood from known = tt
+    look_given (at.Locating reach) stood from known =
         let of = known.0.0 in (
           (
-            record { table = of.table; attached = of.attached; slot_is = of.slot_is },
+            at_then reach.table of,
             or_so (Says Missing) (Says' Missing) (said Missing) (toward_then of.table) known.0.1,
           ),
-          reaching-stays env mix G G' grow port reach of known.1,
+          reaching-stays env mix low G G' grow port reach of (from reach.table (inl refl) of) known.1,
         )
-    look_given (at.Heading head) stood known = stays (Heading head.table (word_index env mix head.place)) tt known
-    look_given (at.Key head node visited) stood known =
+    look_given (at.Heading head) stood from known = stays (Heading head.table (word_index env mix head.place)) tt known
+    look_given (at.Key head node visited) stood from known =
         stays (AtKey head.table (word_index env mix head.place) node visited) stood known
-    look_given (at.Link head node visited) stood known =
+    look_given (at.Link head node visited) stood from known =
         stays (AtLink head.table (word_index env mix head.place) node visited) stood known
-    look_given (at.Future table) stood known = stays (Ending table) tt known
-    look_given (at.Owner node) stood known = stays (Owning node) stood known
-    look_given (at.Closing reply) stood known = said reply known
+    look_given (at.Future table) stood from known = stays (Ending table) tt known
+    look_given (at.Owner node) stood from known = stays (Owning node) stood known
+    look_given (at.Closing reply) stood from known = said reply known

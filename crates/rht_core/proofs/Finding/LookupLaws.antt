@@ -1,4 +1,4 @@
--- The laws of look-ups: their bound, and that each answered what was so at a moment of its call.
+-- The laws of look-ups: their bound, that they load no slot's shape twice, and that each answered what was so at a moment of its call.
 use Rattle.std.proofs.Common.{◌≡◌, ◌≢◌, ℕ, ◌+◌, ◌≤◌, List, [], ◌∷◌, length, Option, Some, None, refl, sym, ap, inl, inr, arith}
 use Rattle.rht_words.specs.declared.env.Env.{Env}
 use Rattle.rht_words.proofs.EachElement.{AllByRecursion-weaker}
@@ -12,11 +12,12 @@ use Rattle.rht_find.specs.FindBound.{find_bound}
 use Rattle.rht_find.proofs.FindBounds.{within_bound}
 use Rattle.rht_core.specs.declared.event.Event.{Event}
 use Rattle.rht_core.specs.Jobs.{Job, finds}
-use Rattle.rht_core.specs.Lookups.{IsShort, AnswersMoment, IsFoundThroughout, Bounded, TakesEffect, FindsWhatStays}
+use Rattle.rht_core.specs.Lookups.{IsShort, AnswersMoment, IsFoundThroughout, Bounded, MeetsEachOnce, MeetsFewTables, TakesEffect, FindsWhatStays}
 use Rattle.rht_core.specs.Runs.{IsAdmitted}
 use Rattle.rht_core.specs.RunHistories.{bindings_behind}
 use Rattle.rht_core.specs.Traces.{Past, Traced, traced_of}
 use Rattle.rht_core.proofs.Finding.LookSteps.{spent_most}
+use Rattle.rht_core.proofs.Finding.ShapesOnce.{met-once}
 use Rattle.rht_core.proofs.Finding.LookupsAtEvents.{AreLooking, JobLooks, SaysOf, PastLooks}
 use Rattle.rht_core.proofs.Finding.LookupsInRuns.{has_looks}
 use Rattle.rht_core.proofs.Tracing.TracedJobs.{IsAtJob}
@@ -57,15 +58,30 @@ module _ (L : Type 0) (mix : ℕ → ℕ → ℕ → ℕ) (env : Env) (events : 
 
   now_short : (job : Option Job) (call : Call)
       → IsAtJob L mix env (Holds L mix env) (Answered L mix env) job (r.world.books c) (r.traces c).steps
-      → JobLooks L mix env events r.world.core looking.placed (looking.readers c).chains c (r.traces c).begin (length (r.traces c).steps) job
+      → JobLooks L mix env events r.world.core looking.placed (looking.readers c).chains c (r.traces c).begin (r.traces c).steps job
       → (r.world.books c).call ≡ Some call → IsShort env call (r.traces c).steps
   now_short None call at_job looks asked port is = absurd (let none = at_job.call in cc)
   now_short (Some (finds other state)) call at_job looks asked port is =
       let made = length (r.traces c).steps in
-      let most = spent_most env mix other (looking.readers c).chains ((r.traces c).begin + 1) (SaysOf L mix env events c other (r.traces c).begin)
-      r.world.core.words looking.placed.ghost looking.placed.places looking.placed.inv.whole made state looks.means looks.spent in
+      let most = spent_most env c mix other (looking.readers c).chains ((r.traces c).begin + 1)
+      (SaysOf L mix env events c other (r.traces c).begin) r.world.core.words looking.placed.ghost looking.placed.places
+      looking.placed.inv.whole made state looks.means looks.spent in
       below_bound made (find_bound env) (within_bound env made most)
   now_short (Some _) call at_job looks asked port is = absurd (let same = at_job.call in cc)
+
+  -- ---- the tables to which it comes
+
+  past_once : (past : Past) → PastLooks L mix env events c past → MeetsEachOnce env past.done.call past.steps
+  past_once past looked port slot is within = (looked port is).once slot within
+
+  now_once : (job : Option Job) (call : Call)
+      → IsAtJob L mix env (Holds L mix env) (Answered L mix env) job (r.world.books c) (r.traces c).steps
+      → JobLooks L mix env events r.world.core looking.placed (looking.readers c).chains c (r.traces c).begin (r.traces c).steps job
+      → (r.world.books c).call ≡ Some call → MeetsEachOnce env call (r.traces c).steps
+  now_once None call at_job looks asked port slot is within = absurd (let none = at_job.call in cc)
+  now_once (Some (finds other state)) call at_job looks asked port slot is within =
+      met-once env c looking.placed.ghost state (r.traces c).steps looks.met slot within
+  now_once (Some _) call at_job looks asked port slot is within = absurd (let same = at_job.call in cc)
 
   -- ---- its answer
 
@@ -99,6 +115,14 @@ bounded L mix env events c admitted =
     record {
       past = AllByRecursion-weaker _ _ (past_short L mix env events c admitted) _ looks.past;
       now = λ call asked. now_short L mix env events c admitted _ call (runs-right L mix env events c admitted).now looks.now asked;
+    }
+
+pub meets_few : (L : Type 0) (mix : ℕ → ℕ → ℕ → ℕ) → MeetsFewTables L mix
+meets_few L mix env events c admitted =
+    let looks = (looking L mix env events c admitted).looks c in
+    record {
+      past = AllByRecursion-weaker _ _ (past_once L mix env events c admitted) _ looks.past;
+      now = λ call asked. now_once L mix env events c admitted _ call (runs-right L mix env events c admitted).now looks.now asked;
     }
 
 pub takes_effect : (L : Type 0) (mix : ℕ → ℕ → ℕ → ℕ) → TakesEffect L mix

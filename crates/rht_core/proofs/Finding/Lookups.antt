@@ -25,8 +25,8 @@ use Rattle.rht_find.specs.declared.find.Head.{Head}
 use Rattle.rht_find.specs.declared.find.FindAt.{FindAt}
 use Rattle.rht_find.specs.declared.find.FindAt.TheVariants as at
 use Rattle.rht_ghost.proofs.Theory.Ghosts.{Ghost, none-some}
-use Rattle.rht_ghost.proofs.Theory.Wholes.{chain_of, hash_in, key_of, place_at, word_index, Whole, current-there, at-there}
-use Rattle.rht_ghost.proofs.Theory.Passed.{at-stays, TablesGrow, hash-below}
+use Rattle.rht_ghost.proofs.Theory.Wholes.{chain_of, hash_in, key_of, place_at, word_index, Whole, AreFrom, current-there, at-there}
+use Rattle.rht_ghost.proofs.Theory.Passed.{at-from, GrowsFrom, hash-below}
 use Rattle.rht_ghost.proofs.Theory.Steps.{mem}
 use Rattle.rht_ghost.proofs.Pieces.TableLoads.{LeadsBehind, future_leads}
 use Rattle.rht_ghost.proofs.Pieces.Reaches.{IsReachingHome}
@@ -34,7 +34,7 @@ use Rattle.rht_core.proofs.Finding.BucketHeads.{loaded_head}
 use Rattle.rht_core.proofs.Finding.Places.{Places, PlacesRight}
 use Rattle.rht_core.proofs.Finding.PlacesSteps.{PlacesNext}
 use Rattle.rht_core.proofs.Finding.Deaths.{DeathsRight, IsLate}
-use Rattle.rht_core.proofs.Finding.Stages.{Stage, Reaching, Heading, AtKey, AtLink, Ending, Owning, IsHome, StageMeans, stage_stays, toward_known}
+use Rattle.rht_core.proofs.Finding.Stages.{Stage, tables_at, Reaching, Heading, AtKey, AtLink, Ending, Owning, IsHome, StageMeans, stage_stays, toward_known}
 use Rattle.rht_core.proofs.Finding.StageSteps.{at_current, headed_to, headed_nowhere, key_differs, key_is_it, link_to, link_nowhere, all_visited, walks_again, none_behind, goes_on}
 use Rattle.rht_core.proofs.Finding.ReachSteps.{ReachLeads, reach_leads, reaching-stays}
 
@@ -130,7 +130,7 @@ module _ (env : Env) (mix : ℕ → ℕ → ℕ → ℕ) (port : ℕ) (seen : �
     head_word head there home_is =
         let τ = home_is.of.table in
         loaded_head env mix words G whole τ (hash_in env mix G port τ) (bucket_of_head head)
-        (at-there env mix whole.tables head.table home_is.of) (hash-below env mix M G whole port τ) home_is.here head.place there refl
+        (at-there home_is.of) (hash-below env mix M G whole port τ) home_is.here head.place there refl
 
     -- ---- the future of a table
 
@@ -235,29 +235,29 @@ module _ (env : Env) (mix : ℕ → ℕ → ℕ → ℕ) (port : ℕ) (seen : �
 -- what it knows outlives an operation of anybody else
 module _ (env : Env) (mix : ℕ → ℕ → ℕ → ℕ) (port : ℕ) (seen : ℕ → Bool) (since now : ℕ) (M : Memory) (G : Ghost) (P : Places) (M' : Memory) (G' : Ghost)
     (whole : Whole env mix M G) (whole' : Whole env mix M' G') (right : PlacesRight env mix G P M now)
-    (step : PlacesNext env mix now M G P M' G') (grow : TablesGrow env mix G G') (began : since ≤ now)
+    (low : ℕ) (step : PlacesNext env mix now low M G P M' G') (grow : GrowsFrom env mix low G G') (began : since ≤ now)
     (Says Says' : Reply → Type 0) (said : (reply : Reply) → Says reply → Says' reply)
     (absent : G'.bound port ≡ [] → Says' Missing) where
-  stays : (stage : Stage) → StageMeans env mix port seen since (Says Missing) M G P stage
+  stays : (stage : Stage) → AreFrom low G (tables_at stage) → StageMeans env mix port seen since (Says Missing) M G P stage
       → StageMeans env mix port seen since (Says' Missing) M' G' step.places stage
-  stays = stage_stays env mix port seen since now M G P M' G' whole whole' right step grow began (Says Missing) (Says' Missing)
+  stays = stage_stays env mix port seen since now M G P M' G' whole whole' right low step grow began (Says Missing) (Says' Missing)
       (said Missing) absent
 
-  pub look_stays : (state : FindAt) → LookMeans env mix port seen since Says M G P state
+  pub look_stays : (state : FindAt) → AreFrom low G (standing_of_find state).tables → LookMeans env mix port seen since Says M G P state
       → LookMeans env mix port seen since Says' M' G' step.places state
-  look_stays at.Opening known = tt
-  look_stays at.CurrentTable known = tt
-  look_stays (at.Locating reach) known = (
+  look_stays at.Opening from known = tt
+  look_stays at.CurrentTable from known = tt
+  look_stays (at.Locating reach) from known = (
     (
-      at-stays env mix G G' grow reach.table known.0.0,
-      toward_known env mix port seen since now M G P M' G' whole whole' right step grow began (Says Missing) (Says' Missing)
+      at-from env mix low G G' grow reach.table known.0.0 (from reach.table (inl refl) known.0.0),
+      toward_known env mix port seen since now M G P M' G' whole whole' right low step grow began (Says Missing) (Says' Missing)
           (said Missing) absent known.0.0.table known.0.1,
     ),
-    reaching-stays env mix G G' grow port reach known.0.0 known.1,
+    reaching-stays env mix low G G' grow port reach known.0.0 (from reach.table (inl refl) known.0.0) known.1,
   )
-  look_stays (at.Heading head) known = stays (Heading head.table (word_index env mix head.place)) known
-  look_stays (at.Key head node visited) known = stays (AtKey head.table (word_index env mix head.place) node visited) known
-  look_stays (at.Link head node visited) known = stays (AtLink head.table (word_index env mix head.place) node visited) known
-  look_stays (at.Future table) known = stays (Ending table) known
-  look_stays (at.Owner node) known = stays (Owning node) known
-  look_stays (at.Closing reply) known = said reply known
+  look_stays (at.Heading head) from known = stays (Heading head.table (word_index env mix head.place)) from known
+  look_stays (at.Key head node visited) from known = stays (AtKey head.table (word_index env mix head.place) node visited) from known
+  look_stays (at.Link head node visited) from known = stays (AtLink head.table (word_index env mix head.place) node visited) from known
+  look_stays (at.Future table) from known = stays (Ending table) from known
+  look_stays (at.Owner node) from known = stays (Owning node) from known
+  look_stays (at.Closing reply) from known = said reply known

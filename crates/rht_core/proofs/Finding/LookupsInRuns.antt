@@ -53,11 +53,11 @@ use Rattle.rht_core.proofs.Tracing.RepliesInRuns.{Holds, Answered, runs-right}
 use Rattle.rht_core.proofs.Finding.Places.{Places}
 use Rattle.rht_core.proofs.Finding.GivenBack.{IsUnmet}
 use Rattle.rht_core.proofs.Finding.LookupsAtEvents.{SaysOf, Looks, JobLooks, AreLooking, SeesOn, Turns, EachLooks, LooksThen, met_now, ApartNow, placed', as_before, found_with, pasts-later, first-looks, own, known_next}
-use Rattle.rht_core.proofs.Finding.PlacesInRuns.{Placed, EventMakes, event_makes, event-ghost, next, placed_opening}
+use Rattle.rht_core.proofs.Finding.PlacesInRuns.{Placed, EventMakes, event_makes, event-ghost, next, placed_opening, opening-closed}
 use Rattle.rht_core.proofs.Finding.Lookups.{LookMeans}
 use Rattle.rht_core.proofs.Returning.ComingJobs.{KnowsLook, job_comes}
 use Rattle.rht_core.proofs.Returning.GoneBack.{gives_back}
-use Rattle.rht_core.proofs.Returning.Meeting.{Leads, MeetsRight, stands_next, next_job, event_leads, stands_outside, reader_then, meets_then, stood, will_stand, turns}
+use Rattle.rht_core.proofs.Returning.Meeting.{Leads, MeetsRight, stands_next, next_job, event_leads, stands_outside, reader_then, meets_then, stands_from, stood, will_stand, turns}
 use Rattle.rht_core.proofs.Returning.Batches.{AreOut}
 use Rattle.rht_core.proofs.Returning.MetBySome.{met-of, apart-unmet}
 use Rattle.rht_core.proofs.Returning.SectionWords.{event_turns}
@@ -102,7 +102,7 @@ module _ (L : Type 0) (mix : ℕ → ℕ → ℕ → ℕ) (env : Env) where
             (record {
               past = pasts-later L mix env events event looking turn c (r.traces c).past (looking.looks c).past;
               now = first-of (λ job. JobLooks L mix env (events ++ event ∷ []) (world_step mix r.world event).core
-                  (placed' L mix env events event looking turn) (turn.then c) c (length events) 0 (Some job)) env call first.job
+                  (placed' L mix env events event looking turn) (turn.then c) c (length events) [] (Some job)) env call first.job
                   (first-looks L mix env events event looking turn c low call) first.first;
             }))
         | inr other ↦
@@ -157,8 +157,8 @@ module _ (L : Type 0) (mix : ℕ → ℕ → ℕ → ℕ) (env : Env) where
             (told (job_after mix env of.job (old_of core.words o))).0) (sym of.plan)
             (own L mix env events (Step c) looking turn c (r.traces c) did (count-traced_of L mix env events) of.job of.is of.within
             (looking.looks c).past
-            (subst (JobLooks L mix env events core looking.placed (looking.readers c).chains c (r.traces c).begin (length (r.traces c).steps))
-            of.is (looking.looks c).now)
+            (subst (JobLooks L mix env events core looking.placed (looking.readers c).chains c (r.traces c).begin (r.traces c).steps)
+            of.is (looking.looks c).now) of.plan
             (does ∙ ap (λ o. (told (job_after mix env of.job (old_of core.words o))).0) of.plan))))
         | inr other ↦
             as_before L mix env events (Step c) looking turn d
@@ -187,12 +187,12 @@ module _ (L : Type 0) (mix : ℕ → ℕ → ℕ → ℕ) (env : Env) where
         (section_parity env mix L events admitted)
 
     -- what a look-up knows
-    look_known : (c begin made : ℕ) (job : Job)
-        → JobLooks L mix env events core placed (looking.readers c).chains c begin made (Some job)
+    look_known : (c begin : ℕ) (steps : List Did) (job : Job)
+        → JobLooks L mix env events core placed (looking.readers c).chains c begin steps (Some job)
         → KnowsLook env mix core.words G placed.inv.whole c (looking.readers c).chains (begin + 1)
         (λ port. SaysOf L mix env events c port begin) placed.places job
-    look_known c begin made (finds port state) looks = looks.means
-    look_known c begin made _ looks = tt
+    look_known c begin steps (finds port state) looks = looks.means
+    look_known c begin steps _ looks = tt
 
     -- a caller's operation leads where it could come to
     pub comes : (c : ℕ) (op : Op) → planned_in core c ≡ Some op
@@ -200,12 +200,11 @@ module _ (L : Type 0) (mix : ℕ → ℕ → ℕ → ℕ) (env : Env) where
     comes c op plan =
         let of = step_of env mix L core G c op placed.all placed.inv plan in
         let trace = r.traces c in
-        let made = length trace.steps in
-        let looks = subst (JobLooks L mix env events core placed (looking.readers c).chains c trace.begin made) of.is (looking.looks c).now in
+        let looks = subst (JobLooks L mix env events core placed (looking.readers c).chains c trace.begin trace.steps) of.is (looking.looks c).now in
         let goes = job_comes env mix core.words G placed.inv.whole c (looking.readers c).chains (trace.begin + 1)
         (λ port. SaysOf L mix env events c port trace.begin) placed.places of.job of.within of.knows
         (subst (tied_with env mix G) of.is (looking.meets c of.low).tied)
-        (look_known c trace.begin made of.job looks) in
+        (look_known c trace.begin trace.steps of.job looks) in
         let same : old_of core.words op ≡ old_of core.words (job_plan env c of.job) = ap (old_of core.words) of.plan in
         subst (ComesTo env.geometry core.words (standing core c))
         (sym (ap standing_with (next_job env mix L core G placed.all placed.inv c op plan)
@@ -263,9 +262,9 @@ module _ (L : Type 0) (mix : ℕ → ℕ → ℕ → ℕ) (env : Env) where
         pub meets_next : MeetsRight env mix L core' G' c (readers' c)
         meets_next =
             meets_then env mix L events core core' placed (met_now L mix env looking) (ApartNow L mix env looking) makes c
-            (looking.readers c) (looking.meets c low) (leads c low) not_met
+            (looking.readers c) (looking.meets c low) (leads c low) not_met parity' (few c low)
 
-        pub sees_on : SeesOn L mix env core core' (met_now L mix env looking) (looking.readers c).chains (readers' c).chains c
+        pub sees_on : SeesOn L mix env core core' G (met_now L mix env looking) (looking.readers c).chains (readers' c).chains c
         sees_on = record {
           met_too = λ n is. met-of looking.readers env.geometry.callers c n low is;
           stood = stood env mix L events core core' placed (met_now L mix env looking) (ApartNow L mix env looking) makes c
@@ -274,6 +273,8 @@ module _ (L : Type 0) (mix : ℕ → ℕ → ℕ → ℕ) (env : Env) where
               (looking.readers c) (looking.meets c low) (leads c low) not_met;
           turns = turns env mix L events core core' placed (met_now L mix env looking) (ApartNow L mix env looking) makes c
               (looking.readers c) (looking.meets c low) (leads c low) not_met (stands_outside env mix L core' parity' c (few c low));
+          tables = stands_from env mix L events core core' placed (met_now L mix env looking) (ApartNow L mix env looking) makes c
+              (looking.readers c) (looking.meets c low) (leads c low) not_met;
         }
 
       -- what is kept for waiting nodes
@@ -319,13 +320,14 @@ module _ (L : Type 0) (mix : ℕ → ℕ → ℕ → ℕ) (env : Env) where
     meets = λ c low. record {
       right = reader-leaves env mix _ _ c
           (ap (λ w. w % 2) ((stand_in_place env).each (Section c) (let callers = env.geometry.within.callers_within in omega (arith, low, callers.1))));
+      from_is = sym (opening-closed env mix L c);
       stands = λ open_then. absurd (cc);
       tied = subst (λ (local : Local L). tied_with env mix (placed_opening env mix L).ghost (job_of local.doing))
           (sym (idle_at_opening env mix L c)) tt;
     };
     looks = λ c. record {
       past = tt;
-      now = subst (λ (local : Local L). JobLooks L mix env [] (R []).world.core (placed_opening env mix L) (λ n. false) c 0 0
+      now = subst (λ (local : Local L). JobLooks L mix env [] (R []).world.core (placed_opening env mix L) (λ n. false) c 0 []
           (job_of local.doing)) (sym (idle_at_opening env mix L c)) tt;
     };
     waits = λ c. subst (Waits env mix L (R []).world.core (λ d. reads_nothing) c) (sym (idle_at_opening env mix L c))
@@ -380,11 +382,11 @@ module _ (L : Type 0) (mix : ℕ → ℕ → ℕ → ℕ) (env : Env) where
         → IsSaid L mix env later c (call_of job) begin claims.answer
     claim_is (finds port state) does within claims = go (says state) refl claims.known
       where
-        made : ℕ
-        made = length ((R events).traces c).steps
+        steps : List Did
+        steps = ((R events).traces c).steps
 
-        looks : Looks L mix env events (R events).world.core looking.placed (looking.readers c).chains c port begin made state
-        looks = subst (JobLooks L mix env events (R events).world.core looking.placed (looking.readers c).chains c begin made) does
+        looks : Looks L mix env events (R events).world.core looking.placed (looking.readers c).chains c port begin steps state
+        looks = subst (JobLooks L mix env events (R events).world.core looking.placed (looking.readers c).chains c begin steps) does
             (looking.looks c).now
 
         after : FindAt
@@ -395,6 +397,6 @@ module _ (L : Type 0) (mix : ℕ → ℕ → ℕ → ℕ) (env : Env) where
             → Said port claims.answer
         go Go is known =
             said_so _ _ _ port _ after claims.answer
-            (known_next L mix env events (Step c) looking turn c port begin made state looks within does) known
+            (known_next L mix env events (Step c) looking turn c port begin steps state looks within does) known
         go (Done reply) is known = absurd (done-known state reply is claims.unknown)
     claim_is job is within claims = absurd (let never = claims.may in cc)

@@ -184,6 +184,11 @@ module _ (env : Env) (mix : ℕ → ℕ → ℕ → ℕ) (L : Type 0) where
     said = λ n t among used. absurd (cc);
   }
 
+  -- and no caller is in its section
+  pub opening-closed : (c : ℕ) → placed_opening.ghost.from c ≡ None
+  unfolding placed_opening
+  opening-closed c = refl
+
   -- an event leads on from there
   module _ (events : List Event) (w : World L)
       (stands : bindings_at L mix env events ≡ stands_for env.geometry w.core.words)

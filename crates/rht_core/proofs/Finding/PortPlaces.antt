@@ -10,7 +10,7 @@ use Rattle.rht_words.specs.Shapes.{unpacked, size_of}
 use Rattle.rht_words.proofs.Memory.{Memory}
 use Rattle.rht_ghost.proofs.Theory.Ghosts.{Leaving, Ghost, HasSeat, PageOf, seat_of, table_at, some-same}
 use Rattle.rht_ghost.proofs.Theory.Passed.{hash-below, place-word, place-table, home-word}
-use Rattle.rht_ghost.proofs.Theory.Wholes.{chain_of, key_of, hash_in, home, place_at, stop, ChainedRight, Whole, IsThere, at-there, seated_at}
+use Rattle.rht_ghost.proofs.Theory.Wholes.{chain_of, key_of, hash_in, home, place_at, stop, ChainedRight, Whole, IsThere, force-there, seated_at}
 use Rattle.rht_ghost.proofs.Theory.SeatedLinks.{home_chained, member_chained}
 use Rattle.rht_core.proofs.Finding.Falling.{AreFalling, one_place, falling-leads}
 use Rattle.rht_core.proofs.Finding.Places.{Places, IsElsewhere, PlacesRight, in_bucket, sitting_placed}
@@ -78,10 +78,6 @@ module _ (env : Env) (mix : ℕ → ℕ → ℕ → ℕ) where
     pub sits_first : (n j : ℕ) → seat_of (G.node n) ≡ Some j → In n (G.bound (key_of M n))
     sits_first n j sits = subst (In n) (sym (seated_at env mix M G whole n j sits).bound_to) (inl refl)
 
-    -- a table that was attached is there
-    there_of : (τ : ℕ) → τ < G.attached → IsThere G τ
-    there_of τ low = at-there env mix whole.tables (G.table τ).slot (record { table = τ; attached = low; slot_is = refl })
-
     -- the port of a node with a place in a bucket has the bucket's number
     pub number_is : (τ b j n p : ℕ) → IsThere G τ → b < size_of (unpacked (G.table τ).shape) → (G.table τ).place b ≡ Some j
         → P.place j n ≡ Some p → hash_in env mix G (key_of M n) τ ≡ b
@@ -93,9 +89,10 @@ module _ (env : Env) (mix : ℕ → ℕ → ℕ → ℕ) where
         sym (place-word env mix M G whole τ hash j is_there (hash-below env mix M G whole (key_of M n) τ) here).number
         ∙ (place-word env mix M G whole τ b j is_there below is).number
 
-    -- what leads to a bucket of a later table, to its end or beyond it leads out
-    pub leads_out : (τ k p link : ℕ) → τ < table_at G k → (port : ℕ) → IsPlaceOf G port k → EndsOrLeads G P k link p → LeadsOut G P τ link
-    leads_out τ k p link later port of (inl out) =
+    -- what leads to a bucket of a later table that is there, to its end or beyond it leads out
+    pub leads_out : (τ k p link : ℕ) → τ < table_at G k → IsThere G (table_at G k) → (port : ℕ) → IsPlaceOf G port k
+        → EndsOrLeads G P k link p → LeadsOut G P τ link
+    leads_out τ k p link later is_there port of (inl out) =
         let further = out.later in
         record {
           bucket = out.bucket;
@@ -106,8 +103,8 @@ module _ (env : Env) (mix : ℕ → ℕ → ℕ → ℕ) where
           attached = out.attached;
           to = out.to;
         }
-    leads_out τ k p link later port of (inr here) =
-        let word = home-word env mix M G whole port (table_at G k) k (there_of (table_at G k) of.attached) of.here in
+    leads_out τ k p link later is_there port of (inr here) =
+        let word = home-word env mix M G whole port (table_at G k) k is_there of.here in
         record {
           bucket = k;
           within = word.within;
@@ -147,7 +144,8 @@ module _ (env : Env) (mix : ℕ → ℕ → ℕ → ℕ) where
               let at = (seated_at env mix M G whole entry further.bucket sits).at_home in
               let table = out.table in
               let more = further.later in
-              inl (leads_out (table_at G j) further.bucket (placed.at + 1) (link_of entry) (omega (arith, table, more)) (key_of M entry)
+              inl (leads_out (table_at G j) further.bucket (placed.at + 1) (link_of entry) (omega (arith, table, more))
+              (force-there env mix whole.tables (table_at G further.bucket) at.current at.attached) (key_of M entry)
               (record { here = at.here; attached = at.attached })
               (inr (inr (record { next = entry; at = placed.at; leads = refl; placed = placed.is; below = omega arith }))))
         ]
@@ -189,9 +187,10 @@ module _ (env : Env) (mix : ℕ → ℕ → ℕ → ℕ) where
           let out = whole.moving.out j n (whole.owned.leaving_at n j leaving).out in
           let table = out.table in
           let more = next.later in
-          let head = head_leads next.bucket (home_chained env mix M G whole (key_of M n) (table_at G next.bucket) next.bucket
-          (there_of (table_at G next.bucket) next.attached) next.here) in
-          inl (leads_out (table_at G j) next.bucket head.0 (chain_of M n) (omega (arith, table, more)) (key_of M n)
+          let is_there = force-there env mix whole.tables (table_at G next.bucket) (omega (arith, more)) next.attached in
+          let head = head_leads next.bucket (home_chained env mix M G whole (key_of M n) (table_at G next.bucket) next.bucket is_there
+          next.here) in
+          inl (leads_out (table_at G j) next.bucket head.0 (chain_of M n) (omega (arith, table, more)) is_there (key_of M n)
           (record { here = next.here; attached = next.attached })
           (subst (λ link. EndsOrLeads G P next.bucket link head.0) (sym next.chain) head.1))
     ]
@@ -209,7 +208,8 @@ module _ (env : Env) (mix : ℕ → ℕ → ℕ → ℕ) where
     sitting_out i j n f p key sits is elsewhere =
         let at = (seated_at env mix M G whole f j sits).at_home in
         let placed = sitting_placed env mix G P M now whole right j f sits in
-        leads_out (table_at G i) j placed.at (chain_of M f) (elsewhere_before i j n f p key sits is elsewhere) (key_of M f)
+        leads_out (table_at G i) j placed.at (chain_of M f) (elsewhere_before i j n f p key sits is elsewhere)
+        (force-there env mix whole.tables (table_at G j) at.current at.attached) (key_of M f)
         (record { here = at.here; attached = at.attached }) (sitting_ends j f placed.at sits placed.is)
 
     -- so does the link of each node that has a place

@@ -5,7 +5,7 @@ use Rattle.rht_words.specs.Members.{In}
 use Rattle.rht_words.proofs.Memory.{Memory}
 use Rattle.rht_ghost.proofs.Theory.Ghosts.{Ghost, HasSeat, seat_of, table_at, none-some, some-same}
 use Rattle.rht_ghost.proofs.Theory.Wholes.{chain_of, key_of, home, Whole, seated_at}
-use Rattle.rht_ghost.proofs.Theory.Passed.{TablesGrow, home-stays}
+use Rattle.rht_ghost.proofs.Theory.Passed.{GrowsFrom, home-from}
 use Rattle.rht_core.proofs.Finding.Falling.{one_place}
 use Rattle.rht_core.proofs.Finding.Places.{Places, PlacesRight}
 use Rattle.rht_core.proofs.Finding.PlacesStay.{WasSeatedAt, PortMoves, table_stays}
@@ -14,7 +14,8 @@ use Rattle.rht_core.proofs.Finding.PortPlaces.{HasDied, IsReplaced, IsPlaceOf, L
 
 module _ (env : Env) (mix : ℕ → ℕ → ℕ → ℕ) (now : ℕ) (M : Memory) (G : Ghost) (P : Places) (M' : Memory) (G' : Ghost)
     (whole : Whole env mix M G) (whole' : Whole env mix M' G') (right : PlacesRight env mix G P M now)
-    (step : PlacesNext env mix now M G P M' G') (grow : TablesGrow env mix G G') (of_ports : PortPlacesRight env mix M G P now) where
+    {low : ℕ} (step : PlacesNext env mix now low M G P M' G') (grow : GrowsFrom env mix low G G')
+    (of_ports : PortPlacesRight env mix M G P now) where
   abbrev P' : Places
   P' = step.places
 
@@ -189,11 +190,11 @@ module _ (env : Env) (mix : ℕ → ℕ → ℕ → ℕ) (now : ℕ) (M : Memory
         let of = of_ports.homes i n p was in
         let table = level i n p was in
         let more = grow.attached in
-        let low = of.attached in
+        let below = of.attached in
         record {
           here = subst (λ k. home env mix G' k (table_at G' i) ≡ Some i) (sym (key_stays i n p was))
-              (ap (home env mix G' (key_of M n)) table ∙ home-stays env mix G G' grow (key_of M n) (table_at G i) i low of.here);
-          attached = omega (arith, table, more, low);
+              (ap (home env mix G' (key_of M n)) table ∙ home-from env mix low G G' grow (key_of M n) (table_at G i) i below (step.frame.from i n p was) of.here);
+          attached = omega (arith, table, more, below);
         }
     | inr new ↦
         let at = (seated_at env mix M' G' whole' n i new.seat).at_home in
@@ -322,15 +323,16 @@ module _ (env : Env) (mix : ℕ → ℕ → ℕ → ℕ) (now : ℕ) (M : Memory
   ends_still i n link p is (inl out) =
       let table = level i n p is in
       let later = out.later in
-      let low = out.attached in
+      let below = out.attached in
+      let from = step.frame.from i n p is in
       let more = grow.attached in
       inl (record {
         bucket = out.bucket;
         within = out.within;
         table = out.table;
-        of = step.frame.pages (out.bucket / 64) out.table out.of;
+        of = step.frame.pages (out.bucket / 64) out.table (omega (arith, from, later)) out.of;
         later = omega (arith, table, later);
-        attached = omega (arith, low, more);
+        attached = omega (arith, below, more);
         to = elim out.to [
           | inl end ↦ inl end
           | inr on ↦ inr (on.0, lower_still out.bucket link on.0 on.1)

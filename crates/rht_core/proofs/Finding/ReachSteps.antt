@@ -1,6 +1,6 @@
 -- The way to a port's bucket serves a look-up without locks: behind each of its loads the look-up is on the way still, at the bucket's
 -- word, or, where the bucket is missing, before the table's future.
-use Rattle.std.proofs.Common.{◌≡◌, ℕ, Bool, List, sym, ◌∙◌}
+use Rattle.std.proofs.Common.{◌≡◌, ℕ, ◌≤◌, Bool, List, sym, ◌∙◌}
 use Rattle.rht_words.specs.declared.env.Env.{Env}
 use Rattle.rht_words.specs.declared.machine.Next.{Next}
 use Rattle.rht_words.specs.declared.machine.Next.TheVariants.{Go, Done}
@@ -11,9 +11,9 @@ use Rattle.rht_nest.specs.declared.place.Bucket.TheVariants.{At, Absent}
 use Rattle.rht_nest.proofs.Reaches.{reach_after-table}
 use Rattle.rht_ghost.proofs.Theory.Ghosts.{Ghost}
 use Rattle.rht_ghost.proofs.Theory.Wholes.{word_index, IsAt, Whole}
-use Rattle.rht_ghost.proofs.Theory.Passed.{TablesGrow}
+use Rattle.rht_ghost.proofs.Theory.Passed.{GrowsFrom}
 use Rattle.rht_ghost.proofs.Theory.Steps.{mem}
-use Rattle.rht_ghost.proofs.Pieces.Reaches.{IsReachingHome, IsReachingHome-stay, ReachTells, reach_tells}
+use Rattle.rht_ghost.proofs.Pieces.Reaches.{IsReachingHome, IsReachingHome-from, ReachTells, reach_tells}
 use Rattle.rht_core.proofs.Finding.Places.{Places, PlacesRight}
 use Rattle.rht_core.proofs.Finding.Deaths.{DeathsRight}
 use Rattle.rht_core.proofs.Finding.Stages.{Stage, Reaching, Heading, Ending, StageMeans}
@@ -27,9 +27,9 @@ module _ (env : Env) (mix : ℕ → ℕ → ℕ → ℕ) where
   stage_of_reach (m, Done (Absent entry)) = Ending m.table
 
   -- what is so of the way outlives an operation of anybody else
-  pub reaching-stays : (G G' : Ghost) → TablesGrow env mix G G' → (port : ℕ) (m : ReachModel) (of : IsAt G m.table)
-      → IsReachingHome env mix G port of.table m.at → IsReachingHome env mix G' port of.table m.at
-  reaching-stays G G' grow port m of is = IsReachingHome-stay env mix G G' grow port of.table m.at of.attached is
+  pub reaching-stays : (low : ℕ) (G G' : Ghost) → GrowsFrom env mix low G G' → (port : ℕ) (m : ReachModel) (of : IsAt G m.table)
+      → low ≤ of.table → IsReachingHome env mix G port of.table m.at → IsReachingHome env mix G' port of.table m.at
+  reaching-stays low G G' grow port m of from is = IsReachingHome-from env mix low G G' grow port of.table m.at of.attached from is
 
   module _ (port : ℕ) (seen : ℕ → Bool) (since now : ℕ) (words : List ℕ) (G : Ghost) (P : Places) (whole : Whole env mix (mem env mix words) G)
       (right : PlacesRight env mix G P (mem env mix words) now) (deaths : DeathsRight env (mem env mix words) G P now)
@@ -57,7 +57,7 @@ module _ (env : Env) (mix : ℕ → ℕ → ℕ → ℕ) where
         → ReachTells env mix G port means.0.table next → ReachLeads next
     at_same slot means (m, next) same tells =
         let there : Means (Reaching m.table) =
-        (record { table = means.0.table; attached = means.0.attached; slot_is = means.0.slot_is ∙ sym same }, means.1) in
+        (record { table = means.0.table; attached = means.0.attached; slot_is = means.0.slot_is ∙ sym same; on = means.0.on }, means.1) in
         leads_on m next there tells
 
     pub reach_leads : (m : ReachModel) → IsReachIn env.geometry m → (means : Means (Reaching m.table))

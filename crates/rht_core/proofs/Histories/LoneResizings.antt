@@ -37,6 +37,34 @@ use Rattle.rht_core.proofs.Reasons.LoneWorks.{CalmAt, CalmReply, CalmNext, calm-
 use Rattle.rht_core.proofs.Reasons.WorksSeen.{SawReplaced, SawAtWork, SawNextWork}
 use Rattle.rht_core.proofs.Reasons.WorkStepsSeen.{work-saw}
 
+-- ---- which calls are resizings
+
+abbrev pub is_work : Call → Bool
+is_work (Bind port owner once) = false
+is_work (Find port) = false
+is_work (All port) = false
+is_work (Release port owner) = false
+is_work (Rebind port owner new) = false
+is_work (Walk from limit) = false
+is_work Work = true
+is_work Tidy = false
+is_work Count = false
+
+-- one begins with the work lock
+no_work : (env : Env) (port owner new : ℕ) (kind : Kind) (state : WorkAt) → first_rebind env port owner new kind ≡ Some (works state) → ⊥
+no_work env port owner new Single state is = cc
+no_work env port owner new Listed state is = cc
+
+no_tidy : (batch : Option BatchModel) (state : WorkAt) → first_tidy batch ≡ Some (works state) → ⊥
+no_tidy None state is = cc
+no_tidy (Some own) state is = cc
+
+pub first_work : (env : Env) (call : Call) (state : WorkAt) → IsFirstJob env call (works state) → works_at.WorkLock ≡ state
+first_work env (Rebind port owner new) state (batch, is) = absurd (no_work env port owner new env.config.kind state is)
+first_work env Work state (batch, is) = cc
+first_work env Tidy state (batch, is) = absurd (no_tidy batch state is)
+first_work env _ state (batch, is) = absurd (cc)
+
 module _ (M : Type 0) (mix : ℕ → ℕ → ℕ → ℕ) (env : Env) (events : List Event) (c : ℕ) where
   abbrev words_at : ℕ → List ℕ
   words_at = words_before M mix env events
@@ -70,25 +98,8 @@ module _ (M : Type 0) (mix : ℕ → ℕ → ℕ → ℕ) (env : Env) (events : 
   Ended Work ending steps = (now : List ℕ) → IsStill steps now → CalmReply env c words_at mix ending.answer.reply steps
   Ended _ ending steps = Unit {0}
 
-  -- a resizing begins with the work lock
-  no_work : (port owner new : ℕ) (kind : Kind) (state : WorkAt) → first_rebind env port owner new kind ≡ Some (works state) → ⊥
-  no_work port owner new Single state is = cc
-  no_work port owner new Listed state is = cc
-
-  no_tidy : (batch : Option BatchModel) (state : WorkAt) → first_tidy batch ≡ Some (works state) → ⊥
-  no_tidy None state is = cc
-  no_tidy (Some own) state is = cc
-
-  work-begins : (call : Call) (state : WorkAt) → IsFirstJob env call (works state) → Now (works state) []
-  work-begins (Rebind port owner new) state (batch, is) = absurd (no_work port owner new env.config.kind state is)
-  work-begins Work state (batch, is) =
-      let here : works_at.WorkLock ≡ state = cc in
-      subst (λ s. Now (works s) []) here (refl, λ now still. tt)
-  work-begins Tidy state (batch, is) = absurd (no_tidy batch state is)
-  work-begins _ state (batch, is) = absurd (cc)
-
   begins : (call : Call) (job : Job) → IsFirstJob env call job → Now job []
-  begins call (works state) is = work-begins call state is
+  begins call (works state) is = subst (λ s. Now (works s) []) (first_work env call state is) (refl, λ now still. tt)
   begins call _ is = tt
 
   next-leads : {S A : Type 0} (start : Job) (job : S → Job) (ending : A → Ending) (all : List Did) (next : S × Next A)
@@ -98,17 +109,6 @@ module _ (M : Type 0) (mix : ℕ → ℕ → ℕ → ℕ) (env : Env) (events : 
   next-leads start job ending all (state, Done end) kept = kept
 
   -- of the other calls nothing is kept
-  abbrev is_work : Call → Bool
-  is_work (Bind port owner once) = false
-  is_work (Find port) = false
-  is_work (All port) = false
-  is_work (Release port owner) = false
-  is_work (Rebind port owner new) = false
-  is_work (Walk from limit) = false
-  is_work Work = true
-  is_work Tidy = false
-  is_work Count = false
-
   other-kept : (job : Job) (all : List Did) → is_work (call_of job) ≡ false → Now job all
   other-kept (works state) all other = absurd (cc)
   other-kept _ all other = tt
@@ -120,7 +120,7 @@ module _ (M : Type 0) (mix : ℕ → ℕ → ℕ → ℕ) (env : Env) (events : 
   work-kept all (state, Done reply) saw calm = calm
 
   goes : (job : Job) (steps : List Did) (did : Did) (performs : Performs mix env job did) → performs.caller ≡ c
-      → StandsIn mix env words_at job did performs → Now job steps
+      → StandsIn mix env words_at job steps did performs → Now job steps
       → LeadsOn M mix env Now Ended job (steps ++ did ∷ []) (job_after mix env job did.old)
   goes (works state) steps did performs own stands kept =
       let here = stands.now in

@@ -195,11 +195,11 @@ module _ (env : Env) (mix : ℕ → ℕ → ℕ → ℕ) (c : ℕ) where
   fits-rely _ M M' G G' rely fits = fits
 
   -- what it knows outlives a step of anybody else
-  pub JobKnows-rely : (job : Job) (M M' : Memory) (G G' : Ghost) → Whole env mix M G → Rely env mix c M G M' G'
+  pub JobKnows-rely : (job : Job) (M M' : Memory) (G G' : Ghost) → Whole env mix M G → G'.from c ≡ G.from c → Rely env mix c M G M' G'
       → JobKnows job M G → JobKnows job M' G'
-  JobKnows-rely job M M' G G' whole rely knows = record {
+  JobKnows-rely job M M' G G' whole from rely knows = record {
     built = knows.built;
-    knowing = Knowing-rely env mix c M M' G G' (held_of job) (known_of job) whole rely knows.knowing;
+    knowing = Knowing-rely env mix c M M' G G' (held_of job) (known_of job) whole from rely knows.knowing;
     fits = fits-rely job M M' G G' rely knows.fits;
   }
 

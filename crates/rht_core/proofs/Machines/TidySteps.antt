@@ -230,6 +230,7 @@ module _ (env : Env) (mix : ℕ → ℕ → ℕ → ℕ) (c : ℕ) where
           slots = knowing.only.slots;
           pages_in = knowing.only.pages_in;
           works = knowing.only.works;
+          reads = knowing.only.reads;
         });
         means = record { node = tt; table = tt; bucket = tt; making = tt; work = tt };
       }

@@ -165,15 +165,15 @@ module _ (env : Env) (mix : ℕ → ℕ → ℕ → ℕ) (c : ℕ) (from : Optio
         WalkMoved room state after (walk_gone env from limit room after state old)
     walk_step room at.Opening knows =
         answered env mix None (inl refl) (still_has refl)
-        (open_step env mix c held.holds_nothing known_nothing words G all whole low knows)
+        (open_step env mix c held.holds_nothing known_nothing refl words G all whole low knows)
     walk_step room (at.Closing (ends.Walked next)) knows =
         let answer = plain (reply_of room (ends.Walked next)) in
         answered env mix (Some answer) (inl (record { reply = refl; owners = refl })) (still_has refl)
-        (close_step env mix c (held.ended_with answer) known_nothing words G all whole low knows)
+        (close_step env mix c (held.ended_with answer) known_nothing refl words G all whole low refl refl knows)
     walk_step room (at.Closing (ends.Again table)) knows =
         let answer = plain (reply_of room (ends.Again table)) in
         answered env mix (Some answer) (inl (record { reply = refl; owners = refl })) (still_has refl)
-        (close_step env mix c (held.ended_with answer) known_nothing words G all whole low knows)
+        (close_step env mix c (held.ended_with answer) known_nothing refl words G all whole low refl refl knows)
     walk_step room state knows =
         let old = old_of words (plan_at env.geometry c state) in
         loads_on (plan_at env.geometry c state) refl (room_after state room old)

@@ -95,7 +95,7 @@ module _ (env : Env) (mix : ℕ → ℕ → ℕ → ℕ) (words : List ℕ) (G :
     (λ same.
         let first = there τ (omega arith) (omega (arith, less, all)) in
         let second = there σ (omega (arith, less)) (omega (arith, all)) in
-        let e = one_slot env mix G τ σ first second same in absurd (omega (arith, e, less))),
+        let e = one_slot G τ σ first second same in absurd (omega (arith, e, less))),
     slots_apart τ (σ + 1) count (omega (arith, less)) (omega (arith, all)) there,
   )
 
@@ -217,7 +217,7 @@ module _ (env : Env) (mix : ℕ → ℕ → ℕ → ℕ) (words : List ℕ) (G :
   -- so is one that has no future
   pub last_stands : (slot : ℕ) → IsAt G slot → M (Slot slot FutureWord) ≡ 0 → In slot (in_force g words)
   last_stands slot at none =
-      let last = last_of_future env mix M G whole at.table (at-there env mix whole.tables slot at)
+      let last = last_of_future env mix M G whole at.table (at-there at)
       (ap (λ s. M (Slot s FutureWord)) at.slot_is ∙ none) in
       let here = whole.tables.current_in in
       subst (λ s. In s (in_force g words)) at.slot_is (table_in_force at.table (omega (arith, last, here)) at.attached)

@@ -2,7 +2,7 @@
 -- changes the words of a table but its maker, and a missing page is entered by a bind on its way.
 --
 -- What is kept of each operation says so, since each was recorded at its event; and so it does of calls in progress.
-use Rattle.std.proofs.Common.{◌≡◌, ℕ, ◌+◌, ◌^◌, arith, true, List, [], ◌∷◌, ◌++◌, Option, Some, None, inl, inr, refl, sym, ap, ◌∙◌, subst, map}
+use Rattle.std.proofs.Common.{◌≡◌, ℕ, ◌+◌, ◌^◌, arith, true, List, [], ◌∷◌, ◌++◌, Option, Some, None, inl, inr, refl, sym, ap, ◌∙◌, subst, map, ◌<◌}
 use Rattle.std.specs.Prelude.{IfSome, min, ◌≤◌}
 use Rattle.std.specs.List.{AllByRecursion}
 use Rattle.rht_words.specs.declared.env.Env.{Env}
@@ -27,7 +27,8 @@ use Rattle.rht_core.proofs.Tracing.TracesAtEvents.{at_events}
 use Rattle.rht_core.proofs.Tracing.TracedJobs.{IsEndedSo, IsAtJob, jobs_keep_own}
 use Rattle.rht_core.proofs.Reasons.SlotsTaken.{each-map}
 use Rattle.rht_core.proofs.Reasons.MadeSizes.{pages-wanted, wanted-most}
-use Rattle.rht_core.proofs.Reasons.TablesCome.{AreTraced, traced-front, missing_had, walked_size}
+use Rattle.rht_core.proofs.Tracing.UnturnedSteps.{UnturnedTo}
+use Rattle.rht_core.proofs.Reasons.TablesCome.{AreTraced, traced-front, missing_had, table_there, walked_size}
 use Rattle.rht_core.proofs.Reasons.TablesWalked.{no_load, LastWalked-push}
 use Rattle.rht_core.proofs.Reasons.RefusedBinds.{Behind, SawWhy, SawToAttach, Settled}
 use Rattle.rht_core.proofs.Reasons.BindCauses.{walked_full, unclamped}
@@ -53,12 +54,13 @@ module _ (M : Type 0) (mix : ℕ → ℕ → ℕ → ℕ) (env : Env) (events : 
     AreTracedHere steps = AreTraced M mix env events c steps
 
     by_growing : (port slot shape : ℕ) (before : List Did) (did : Did) → AreTracedHere (before ++ did ∷ [])
+        → c < 16 → UnturnedTo g words_at c before did.index
         → (is_nested shape ≡ true → 128 ≤ size_of (unpacked shape))
         → (growing : Growing) → Attaches g growing.table slot did
         → Behind g growing.table growing.shape (SawToAttach env words_at mix port growing slot shape) before
         → AttachesFull M mix env events c port growing.table slot shape before did
     unfolding LastWalked-push
-    by_growing port slot shape before did traced nested growing attaches seen =
+    by_growing port slot shape before did traced few calm nested growing attaches seen =
         let recorded = traced.recorded in
         let walked = seen.walked in
         let saw = seen.saw in
@@ -73,6 +75,7 @@ module _ (M : Type 0) (mix : ℕ → ℕ → ℕ → ℕ) (env : Env) (events : 
           at = did;
           rest = [];
           split = refl;
+          inside = seen.quiet;
           saw = saw.why;
           last = attaches;
         } in
@@ -84,7 +87,8 @@ module _ (M : Type 0) (mix : ℕ → ℕ → ℕ → ℕ) (env : Env) (events : 
         let same : min wanted.count 65536 ≡ wanted.count =
         subst (λ n. min n 65536 ≡ n) wanted.counted.found
         (unclamped M mix env events c admitted wanted.counting counting wanted.counted.word.loads) in
-        let most = walked_size M mix env events c before did traced admitted growing.table growing.shape slot walked attaches in
+        let most = walked_size M mix env events c admitted few before did traced calm growing.table growing.shape slot walked
+        seen.quiet attaches in
         record {
           full =
               walked_full M mix env events c admitted port growing.table (SawWhy env words_at mix port growing.table)
@@ -112,22 +116,24 @@ module _ (M : Type 0) (mix : ℕ → ℕ → ℕ → ℕ) (env : Env) (events : 
         }
 
     full-cause : (port table slot shape : ℕ) (before : List Did) (did : Did) → AreTracedHere (before ++ did ∷ [])
+        → c < 16 → UnturnedTo g words_at c before did.index
         → (is_nested shape ≡ true → 128 ≤ size_of (unpacked shape)) → Attaches g table slot did
         → SeenFull M mix env events c port table slot shape before
         → AttachesFull M mix env events c port table slot shape before did
-    full-cause port table slot shape before did traced nested attaches seen =
+    full-cause port table slot shape before did traced few calm nested attaches seen =
         subst (λ t. AttachesFull M mix env events c port t slot shape before did) seen.table_is
-        (by_growing port slot shape before did traced nested seen.growing
+        (by_growing port slot shape before did traced few calm nested seen.growing
         (subst (λ t. Attaches g t slot did) (sym seen.table_is) attaches) seen.seen)
 
     cause_of : (call : Call) (table slot shape : ℕ) (before : List Did) (did : Did)
-        → AreTracedHere (before ++ did ∷ []) → (is_nested shape ≡ true → 128 ≤ size_of (unpacked shape))
+        → AreTracedHere (before ++ did ∷ []) → c < 16 → UnturnedTo g words_at c before did.index
+        → (is_nested shape ≡ true → 128 ≤ size_of (unpacked shape))
         → Attaches g table slot did → SeenCause M mix env events c call table slot shape before
         → AttachCause M mix env events c call table slot shape before did
-    cause_of (Bind port owner once) table slot shape before did traced nested attaches seen =
-        full-cause port table slot shape before did traced nested attaches seen
-    cause_of Work table slot shape before did traced nested attaches seen = seen
-    cause_of _ table slot shape before did traced nested attaches seen = absurd seen
+    cause_of (Bind port owner once) table slot shape before did traced few calm nested attaches seen =
+        full-cause port table slot shape before did traced few calm nested attaches seen
+    cause_of Work table slot shape before did traced few calm nested attaches seen = seen
+    cause_of _ table slot shape before did traced few calm nested attaches seen = absurd seen
 
     rightly : (call : Call) (before : List Did) (did : Did) → AreTracedHere (before ++ did ∷ [])
         → ChangesSeen M mix env events c call before did → ChangesRightly M mix env events c call before did
@@ -142,13 +148,17 @@ module _ (M : Type 0) (mix : ℕ → ℕ → ℕ → ℕ) (env : Env) (events : 
           shape_is = attached.shape_is;
           none_behind = attached.none_behind;
           pages = attached.pages;
-          cause = cause_of call slot attached.slot attached.shape before did traced attached.nested attached.attaches attached.cause;
+          cause = cause_of call slot attached.slot attached.shape before did traced seen.few seen.unturned attached.nested attached.attaches attached.cause;
         })
       ];
       current = seen.current;
       states = seen.states;
+      kept = seen.kept;
       work = seen.work;
-      entries = λ entry changed. seen.entries entry changed (missing_had M mix env events c before did traced entry changed);
+      leading = λ index changed.
+          let was = table_there M mix env events c admitted seen.few before did traced seen.unturned changed.table changed.stands in
+          seen.leading index changed was.had was.yet;
+      entries = λ entry changed. seen.entries entry changed (missing_had M mix env events c admitted seen.few before did traced seen.unturned entry changed);
     }
 
     all_rightly : (call : Call) (steps : List Did) → AreTracedHere steps → EachBehind (ChangesSeen M mix env events c call) [] steps

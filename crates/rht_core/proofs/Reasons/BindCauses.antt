@@ -70,6 +70,7 @@ module _ (M : Type 0) (mix : ℕ → ℕ → ℕ → ℕ) (env : Env) (events : 
         at = saw.at;
         rest = saw.rest;
         split = saw.split;
+        inside = saw.inside;
         unbound = saw.unbound;
         full = record {
           loaded = full.loaded;
@@ -241,6 +242,7 @@ module _ (M : Type 0) (mix : ℕ → ℕ → ℕ → ℕ) (env : Env) (events : 
             rest = seen.rest;
             split = seen.split;
             raises = seen.raises;
+            inside = seen.inside;
             first = seen.first;
             chain = seen.seen.short.chain;
             none = seen.seen.short.none;
@@ -296,6 +298,7 @@ module _ (M : Type 0) (mix : ℕ → ℕ → ℕ → ℕ) (env : Env) (events : 
     at = settled.at;
     rest = settled.rest;
     split = settled.split;
+    inside = settled.inside;
     crowded =
         crowded port table settled.why settled.shape settled.before
         (recorded_before port table Saw Last steps recorded settled) is_full.crowd;
@@ -336,7 +339,7 @@ module _ (M : Type 0) (mix : ℕ → ℕ → ℕ → ℕ) (env : Env) (events : 
         none = settled.last;
       }
   bind-cause port past (NoTable size) (inr missed) recorded rising =
-      inr (no_page-cause env words_at mix port size (past.begin + 1) past.steps rising missed)
+      inr (no_page-cause env words_at mix port size past.steps missed)
   bind-cause port past (NoTable size) (inl seen) recorded rising =
       let table = seen.table in
       let none = Loaded env.geometry (Slot table FutureWord) 0 in

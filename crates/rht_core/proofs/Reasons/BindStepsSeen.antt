@@ -44,7 +44,7 @@ use Rattle.rht_bind.specs.declared.bind.BindAt.{BindAt}
 use Rattle.rht_bind.specs.declared.bind.BindAt.TheVariants as at
 use Rattle.rht_core.specs.Jobs.{binds}
 use Rattle.rht_core.specs.Traces.{Did, performed_of}
-use Rattle.rht_core.specs.Seen.{CameTo}
+use Rattle.rht_core.specs.Seen.{CameTo, TurnsNoSection}
 use Rattle.rht_core.specs.ResizeCauses.{IsUnboundAt, SawNoneBehind, SawLongChain, SawShortChain}
 use Rattle.rht_stands.specs.StandsFor.{stands_for}
 use Rattle.rht_words.specs.Operations.{old_of}
@@ -53,7 +53,7 @@ use Rattle.rht_core.proofs.Reasons.NamedFutures.{no_slot, future_few}
 use Rattle.rht_words.specs.Machines.{GoesOrEnds}
 use Rattle.rht_core.proofs.Reasons.PagesMissed.{SawGrowing, SawGrown, grow-saw, SeesMissing, SeesMissing-push}
 use Rattle.rht_core.proofs.Tracing.TracedJobs.{Performs, StandsIn}
-use Rattle.rht_core.proofs.Reasons.TablesWalked.{IsAside, grow_loads, IsNoRaise, no_load, aside, elsewhere, node_loads, probe_loads, relink_stores, came-current, came-future, walked-came, LastWalked-push, Walked, Walked-push, WalkedSeeing, WalkedSeeing-push, make_loads, grow_stays, other_load, nodes_behind}
+use Rattle.rht_core.proofs.Reasons.TablesWalked.{IsAside, grow_loads, IsNoRaise, no_load, aside, elsewhere, node_loads, probe_loads, relink_stores, came-current, came-future, walked-came, LastWalked-push, Walked, Walked-push, WalkedSeeing, WalkedSeeing-push, make_loads, grow_stays, other_load, nodes_behind, walked-quiet, no_turn, WalkedSeeing-push_in, make_turns}
 use Rattle.rht_core.proofs.Reasons.KeyLoads.{no_key, no_key-before, no_key-grow}
 use Rattle.rht_core.proofs.Reasons.RoomSeen.{ShortSeen, RoomSeen, RoomSeen-push, room-seen}
 use Rattle.rht_core.proofs.Reasons.ChainsCounted.{HasWalked, HasWalked-push, CountedUnless, WalkCounted, CountedNext, probe-counted, long-counted, short-counted}
@@ -67,13 +67,14 @@ use Rattle.rht_core.proofs.Reasons.BindsSeen.{SawThen, SawAt, SawNext, SawFor, S
 use Rattle.rht_core.proofs.Reasons.WaysSeen.{locating-saw, grown-saw}
 use Rattle.rht_core.proofs.Reasons.GrowthsSeen.{unmade-saw, want-saw, made-saw, again-saw, attach-saw, attaching_few, again_few}
 use Rattle.rht_core.proofs.Reasons.SlotsTaken.{unmake-own}
+use Rattle.rht_core.proofs.Reasons.QuietSteps.{unturned-behind}
 
-module _ (env : Env) (words_at : ℕ → List ℕ) (mix : ℕ → ℕ → ℕ → ℕ) (port : ℕ) where
+module _ (env : Env) (words_at : ℕ → List ℕ) (mix : ℕ → ℕ → ℕ → ℕ) (port c : ℕ) where
   abbrev Sees : BindAt → List Did → Type 0
-  Sees = SawAt env words_at mix port
+  Sees = SawAt env words_at mix port c
 
   abbrev SeesNext : List Did → BindAt × Next Reply → Type 0
-  SeesNext = SawNext env words_at mix port
+  SeesNext = SawNext env words_at mix port c
 
   bind_made-saw : (new : NewNodeModel) (r : NewNodeAt × Next (Option ℕ)) (all : List Did) → SawMade env all r
       → SeesNext all (filled (record new { at = r.0 }) r.1)
@@ -90,7 +91,7 @@ module _ (env : Env) (words_at : ℕ → List ℕ) (mix : ℕ → ℕ → ℕ �
 
   seen-saw : (kind : Kind) (claimed : Claimed) (found before : Option ℕ) (length : ℕ) (steps : List Did)
       → WalkedSeeing env.geometry claimed.table claimed.shape
-      (CountedUnless env.geometry words_at mix port claimed.table claimed.shape found claimed.bucket.place length) steps
+      (CountedUnless env.geometry words_at mix port claimed.table claimed.shape c found claimed.bucket.place length) steps
       → Sees (found_or_future kind claimed found before length) steps
   seen-saw kind claimed None before length steps seeing = seeing
   seen-saw kind claimed (Some first) before length steps seeing =
@@ -99,7 +100,7 @@ module _ (env : Env) (words_at : ℕ → List ℕ) (mix : ℕ → ℕ → ℕ �
   probed-saw : (kind : Kind) (attempt : Attempt) (table shape : ℕ) (probe : ProbeModel)
       (r : ProbeAt × Next Probed)
       (steps : List Did)
-      → WalkedSeeing env.geometry table shape (CountedNext env.geometry words_at mix port table shape r) steps
+      → WalkedSeeing env.geometry table shape (CountedNext env.geometry words_at mix port table shape c r) steps
       → Sees (probed kind attempt table shape (record probe { at = r.0 }) r.1) steps
   probed-saw kind attempt table shape probe (state, Go) steps seeing = seeing
   probed-saw kind attempt table shape probe (state, Done end) steps seeing =
@@ -110,7 +111,7 @@ module _ (env : Env) (words_at : ℕ → List ℕ) (mix : ℕ → ℕ → ℕ �
   -- so many nodes were counted, and where no table is behind, that was loaded while the port had no owner
   abbrev SawFuture : Claimed → ℕ → Option ℕ → List Did → Type 0
   SawFuture claimed length future behind =
-      HasWalked env.geometry words_at mix port claimed.table claimed.shape claimed.bucket.place length behind
+      HasWalked env.geometry words_at mix port claimed.table claimed.shape c claimed.bucket.place length behind
       × (future ≡ None → Any (SawNoneBehind env.geometry words_at port claimed.table) behind)
 
   -- behind the walk in vain
@@ -144,10 +145,10 @@ module _ (env : Env) (words_at : ℕ → List ℕ) (mix : ℕ → ℕ → ℕ �
   -- 16 nodes that were counted are a long chain, where no table is behind, and fewer a short one
   future-saw : (claimed : Claimed) (length : ℕ) (future : Option ℕ) (steps : List Did)
       → ((behind : List Did) → 16 ≤ length
-      → HasWalked env.geometry words_at mix port claimed.table claimed.shape claimed.bucket.place length behind
+      → HasWalked env.geometry words_at mix port claimed.table claimed.shape c claimed.bucket.place length behind
       → SawLongChain env.geometry words_at mix port claimed.table claimed.shape behind)
       → ((behind : List Did) → length < 16
-      → HasWalked env.geometry words_at mix port claimed.table claimed.shape claimed.bucket.place length behind
+      → HasWalked env.geometry words_at mix port claimed.table claimed.shape c claimed.bucket.place length behind
       → SawShortChain env.geometry words_at mix port claimed.table claimed.shape behind)
       → ((table : ℕ) → future ≡ Some table → CameTo env.geometry table steps)
       → WalkedSeeing env.geometry claimed.table claimed.shape (SawFuture claimed length future) steps
@@ -157,6 +158,7 @@ module _ (env : Env) (words_at : ℕ → List ℕ) (mix : ℕ → ℕ → ℕ �
       (nat_le 16 length)
       (λ t. record {
         walked = seeing.walked.last;
+        quiet = walked-quiet env.geometry claimed.table claimed.shape steps seeing.walked;
         saw = record {
           crowd = long seeing.walked.last.behind (leb-true 16 length t) seeing.saw.0;
           unbound = seeing.saw.1 refl;
@@ -200,6 +202,7 @@ module _ (env : Env) (words_at : ℕ → List ℕ) (mix : ℕ → ℕ → ℕ �
         at = did;
         rest = [];
         split = refl;
+        inside = walked-quiet env.geometry claimed.table claimed.shape steps walked;
         unbound = now;
         full = record { loaded = is; found = refl; full = omega arith };
       })
@@ -208,6 +211,9 @@ module _ (env : Env) (words_at : ℕ → List ℕ) (mix : ℕ → ℕ → ℕ �
       (λ t. record {
         walked =
             LastWalked-push env.geometry claimed.table claimed.shape steps did beside.no_shape walked.last;
+        quiet =
+            AllByRecursion-push (TurnsNoSection env.geometry) walked.last.behind did
+            (walked-quiet env.geometry claimed.table claimed.shape steps walked) beside.stays.1;
         saw = above-why env words_at mix port claimed.table claimed.shape walked.last.behind did is t now seeing.saw.none;
       })
       (λ within.
@@ -262,18 +268,18 @@ module _ (env : Env) (words_at : ℕ → List ℕ) (mix : ℕ → ℕ → ℕ �
   module _ (owner : ℕ) (once : Bool) where
     pub bind-saw : (state : BindAt) (steps : List Did) (did : Did)
         → (does : Performs mix env (binds port owner once state) did)
-        → StandsIn mix env words_at (binds port owner once state) did does
+        → does.caller ≡ c → StandsIn mix env words_at (binds port owner once state) steps did does
         → Sees state steps → SawAttached env state steps → SawUnraised env state steps
         → SeesNext (steps ++ did ∷ []) (after_at mix env port once state did.old)
-    bind-saw (at.Filling new) steps did does now saw so unraised =
+    bind-saw (at.Filling new) steps did does own now saw so unraised =
         bind_made-saw new (new_node_after_at new.at did.old) (steps ++ did ∷ [])
         (new-saw env new new.at steps did refl does.within.at_in does.planned saw)
-    bind-saw (at.Opening attempt) steps did does now saw so unraised = tt
-    bind-saw (at.CurrentTable attempt) steps did does now saw so unraised =
+    bind-saw (at.Opening attempt) steps did does own now saw so unraised = tt
+    bind-saw (at.CurrentTable attempt) steps did does own now saw so unraised =
         came-current env.geometry steps did does.planned
-    bind-saw (at.Locating attempt locate) steps did does now saw so unraised =
-        locating-saw env words_at mix port owner once attempt locate steps did does now saw
-    bind-saw (at.Entering attempt table shape place grow) steps did does now saw so unraised =
+    bind-saw (at.Locating attempt locate) steps did does own now saw so unraised =
+        locating-saw env words_at mix port c owner once attempt locate steps did does own now saw
+    bind-saw (at.Entering attempt table shape place grow) steps did does own now saw so unraised =
         let within = does.within.at_in.grow_in in
         let after = grow_after_at env.geometry grow.at did.old in
         let Before = SawGrowing env.geometry grow.at in
@@ -294,30 +300,33 @@ module _ (env : Env) (words_at : ℕ → List ℕ) (mix : ℕ → ℕ → ℕ �
         so_far) saw in
         subst (λ (h : Geometry). let r = grow_after_at h grow.at did.old in
         Sees (grown env port attempt table shape place (record grow { at = r.0 }) r.1) (steps ++ did ∷ []))
-        (sym within.geometry_same) (grown-saw env words_at mix port attempt table shape place grow after
+        (sym within.geometry_same) (grown-saw env words_at mix port c attempt table shape place grow after
         (steps ++ did ∷ []) seeing)
-    bind-saw (at.Probing attempt table shape probe) steps did does now saw so unraised =
+    bind-saw (at.Probing attempt table shape probe) steps did does own now saw so unraised =
         let within = does.within.at_in.probe_in.at_in in
         let after = probe_after_at probe.geometry probe.key probe.at did.old in
         probed-saw env.config.kind attempt table shape probe after (steps ++ did ∷ [])
-        (WalkedSeeing-push env.geometry table shape (WalkCounted env.geometry words_at mix port table shape probe.at)
-        (CountedNext env.geometry words_at mix port table shape after) steps did
+        (WalkedSeeing-push_in env.geometry table shape (WalkCounted env.geometry words_at mix port table shape c probe.at)
+        (CountedNext env.geometry words_at mix port table shape c after) steps did
         (probe_loads env.geometry did probe.at within does.planned)
-        (λ behind counted. probe-counted env mix words_at does.caller port does.words does.ghost does.whole
+        (λ behind lie counted. subst (λ k. WalkCounted env.geometry words_at mix port table shape k probe.at behind
+        → CountedNext env.geometry words_at mix port table shape k after (behind ++ did ∷ [])) own
+        (probe-counted env mix words_at does.caller port does.words does.ghost does.whole
         table shape probe.geometry probe.key probe.at behind did within does.knows.fits.1
         does.knows.knowing.means.table does.knows.knowing.means.bucket
-        does.planned does.within.at_in.probe_in.geometry_same does.found now.now now.stay counted) saw)
-    bind-saw (at.FoundOwner claimed found) steps did does now saw so unraised = does.knows.fits
-    bind-saw (at.ListLink list) steps did does now saw so unraised =
+        does.planned does.within.at_in.probe_in.geometry_same does.found now.now now.stay
+        (unturned-behind env.geometry words_at does.caller does.few steps behind did.index lie now.unturned)) counted) saw)
+    bind-saw (at.FoundOwner claimed found) steps did does own now saw so unraised = does.knows.fits
+    bind-saw (at.ListLink list) steps did does own now saw so unraised =
         Walked-push env.geometry list.claimed.table list.claimed.shape steps did
         (aside env.geometry did _ does.planned (λ place load. cc) (λ place value adds. cc)) saw
-    bind-saw (at.ChainLink list) steps did does now saw so unraised =
+    bind-saw (at.ChainLink list) steps did does own now saw so unraised =
         Walked-push env.geometry list.claimed.table list.claimed.shape steps did
         (node_loads env.geometry did env.geometry list.first ChainLink does.planned) saw
-    bind-saw (at.LinkBehind list link) steps did does now saw so unraised =
+    bind-saw (at.LinkBehind list link) steps did does own now saw so unraised =
         Walked-push env.geometry list.claimed.table list.claimed.shape steps did
         (aside env.geometry did _ does.planned (λ place load. cc) (λ place value adds. cc)) saw
-    bind-saw (at.Replacing list relink) steps did does now saw so unraised =
+    bind-saw (at.Replacing list relink) steps did does own now saw so unraised =
         replaced-saw list (relink_after relink).0 (relink_after relink).1 (steps ++ did ∷ [])
         does.knows.fits.listed
         (Walked-push env.geometry list.claimed.table list.claimed.shape steps did
@@ -326,87 +335,89 @@ module _ (env : Env) (words_at : ℕ → List ℕ) (mix : ℕ → ℕ → ℕ �
         (no_attach env.geometry did _ does.planned (relink-none env.geometry relink relink.at)) so)
         (AllByRecursion-push (IsNoRaise env.geometry) steps did unraised
         (relink_stores env.geometry did relink relink.at does.planned).no_raise)
-    bind-saw (at.Future claimed length) steps did does now saw so unraised =
+    bind-saw (at.Future claimed length) steps did does own now saw so unraised =
         let place = claimed.bucket.place in
-        let counted = HasWalked env.geometry words_at mix port claimed.table claimed.shape place length in
+        let counted = HasWalked env.geometry words_at mix port claimed.table claimed.shape c place length in
         future-saw claimed length (slot_of did.old) (steps ++ did ∷ [])
         (λ behind enough has. long-counted env mix words_at does.caller port does.words does.ghost does.whole
-        claimed.table claimed.shape place length behind does.knows.knowing.means.table enough has)
+        claimed.table claimed.shape c place length behind does.knows.knowing.means.table enough has)
         (λ behind few has. short-counted env mix words_at does.caller port does.words does.ghost does.whole
-        claimed.table claimed.shape place length behind does.knows.knowing.means.table few has)
+        claimed.table claimed.shape c place length behind does.knows.knowing.means.table few has)
         (λ table named. came-future env.geometry claimed.table table steps did does.within.at_in.table_in
         does.planned named
         (walked-came env.geometry claimed.table claimed.shape steps saw.walked))
         (WalkedSeeing-push env.geometry claimed.table claimed.shape counted (SawFuture claimed length (slot_of did.old)) steps did
         (elsewhere env.geometry did _ does.planned (λ first. absurd (omega (arith, first))) (λ table below same. absurd (omega arith)))
         (λ behind has. (
-          HasWalked-push env.geometry words_at mix port claimed.table claimed.shape place length behind did
+          HasWalked-push env.geometry words_at mix port claimed.table claimed.shape c place length behind did
               (no_key-future env.geometry did claimed.table does.within.at_in.table_in does.planned) has,
           λ none. Any-push (SawNoneBehind env.geometry words_at port claimed.table) behind did
               (future-unbound owner once claimed length did does now.now none),
         )) saw)
-    bind-saw (at.Count claimed) steps did does now saw so unraised =
+    bind-saw (at.Count claimed) steps did does own now saw so unraised =
         count-saw claimed steps did does.planned (count-unbound owner once claimed did does now.now) saw
-    bind-saw (at.Link claimed) steps did does now saw so unraised =
+    bind-saw (at.Link claimed) steps did does own now saw so unraised =
         WalkedSeeing-push env.geometry claimed.table claimed.shape (RoomSeen env words_at mix port claimed.table claimed.shape)
         (RoomSeen env words_at mix port claimed.table claimed.shape) steps did
         (aside env.geometry did _ does.planned (λ place load. cc) (λ place value adds. cc))
         (λ behind seen. RoomSeen-push env words_at mix port claimed.table claimed.shape behind did
         (no_key env.geometry did _ does.planned (λ place load. cc)) seen) saw
-    bind-saw (at.Raise claimed) steps did does now saw so unraised =
+    bind-saw (at.Raise claimed) steps did does own now saw so unraised =
         raise-saw env words_at mix port claimed steps did does.planned saw so unraised
-    bind-saw (at.Publish node table relink kick) steps did does now saw so unraised =
+    bind-saw (at.Publish node table relink kick) steps did does own now saw so unraised =
         published-saw node table kick (relink_after relink).0 (relink_after relink).1 (steps ++ did ∷ [])
         (Raised-push env words_at mix port kick steps did
         (still env did _ does.planned (relink-no_load relink relink.at) (relink-no_add relink relink.at)
         (relink-none env.geometry relink relink.at)) saw)
-    bind-saw (at.Unlocking attempt table unlock next) steps did does now saw so unraised =
+    bind-saw (at.Unlocking attempt table unlock next) steps did does own now saw so unraised =
         unlocked-saw attempt next (steps ++ did ∷ [])
         (SawThen-push env words_at mix port next steps did
         (still env did _ does.planned (λ place load. cc) (λ place value adds. cc) (λ table old new l e. cc))
         (aside env.geometry did _ does.planned (λ place load. cc) (λ place value adds. cc)).stays saw)
-    bind-saw (at.UnlockingFull growing unlock) steps did does now saw so unraised =
+    bind-saw (at.UnlockingFull growing unlock) steps did does own now saw so unraised =
         Behind-push env.geometry growing.table growing.shape (SawWhy env words_at mix port growing.table growing.why growing.shape)
         (SawWhy env words_at mix port growing.table growing.why growing.shape) steps did
-        (no_load env.geometry did _ does.planned (λ place load. cc))
+        (no_load env.geometry did _ does.planned (λ place load. cc)) (no_turn env.geometry did _ does.planned (λ place value adds. cc))
         (λ behind why. SawWhy-push env words_at mix port growing.table growing.why growing.shape behind did
         (no_key env.geometry did _ does.planned (λ place load. cc)) why) saw
-    bind-saw (at.Root growing) steps did does now saw so unraised =
+    bind-saw (at.Root growing) steps did does own now saw so unraised =
         Behind-push env.geometry growing.table growing.shape (SawWhy env words_at mix port growing.table growing.why growing.shape)
         (SawRoot env words_at mix port growing (table_of did.old)) steps did
         (other_load env.geometry did _ does.planned (λ table below same. absurd (omega (arith, same))))
+        (no_turn env.geometry did _ does.planned (λ place value adds. cc))
         (λ behind why. root-saw env words_at mix port growing behind did does.planned why) saw
-    bind-saw (at.GrowthCount growing root) steps did does now saw so unraised =
-        want-saw env words_at mix port once growing root steps did does.planned
+    bind-saw (at.GrowthCount growing root) steps did does own now saw so unraised =
+        want-saw env words_at mix port c once growing root steps did does.planned
         (other_load env.geometry did _ does.planned (λ table below same. absurd (omega (arith, same)))) saw
-    bind-saw (at.Making growing size make) steps did does now saw so unraised =
+    bind-saw (at.Making growing size make) steps did does own now saw so unraised =
         let after = make_after_at make.geometry make.exponent make.nested make.at did.old in
-        made-saw env words_at mix port once growing size make after (steps ++ did ∷ [])
+        made-saw env words_at mix port c once growing size make after (steps ++ did ∷ [])
         (Behind-push env.geometry growing.table growing.shape
         (SawToMake env words_at mix port growing size make.exponent make.nested (make.at, Go))
         (SawToMake env words_at mix port growing size make.exponent make.nested after) steps did
         (make_loads env.geometry make.geometry make.exponent make.seed make.at did does.planned)
+        (make_turns env.geometry make.geometry make.exponent make.seed make.at did does.planned)
         (λ behind so_far. making-saw env words_at mix port growing size make behind did does.within.at_in.make_in
         does.planned so_far) saw)
-    bind-saw (at.FutureAgain growing refusal) steps did does now saw so unraised =
-        again-saw env words_at mix port once growing refusal (slot_of did.old) steps did
+    bind-saw (at.FutureAgain growing refusal) steps did does own now saw so unraised =
+        again-saw env words_at mix port c once growing refusal (slot_of did.old) steps did
         does.within.at_in.growing_in.table_in does.planned
         (again_few env mix port owner once growing refusal did does) refl saw
-    bind-saw (at.Attaching growing slot shape) steps did does now saw so unraised =
-        attach-saw env words_at mix port once growing slot shape steps did
+    bind-saw (at.Attaching growing slot shape) steps did does own now saw so unraised =
+        attach-saw env words_at mix port c once growing slot shape steps did
         does.within.at_in.growing_in.table_in does.within.at_in.slot_in
         does.planned (attaching_few env mix port owner once growing slot shape did does) saw
-    bind-saw (at.Unmaking attempt unmake answer) steps did does now saw so unraised =
-        unmade-saw env words_at mix port once attempt answer (unmake_after unmake did.old).0
+    bind-saw (at.Unmaking attempt unmake answer) steps did does own now saw so unraised =
+        unmade-saw env words_at mix port c once attempt answer (unmake_after unmake did.old).0
         (unmake_after unmake did.old).1 (steps ++ did ∷ [])
         (SawForReply-push env words_at mix port answer steps did
         (still env did _ does.planned (unmake-no_load unmake.geometry unmake.slot unmake.at)
         (unmake-no_add unmake.geometry unmake.slot unmake.at)
         (unmake-none env.geometry unmake.geometry unmake.slot unmake.at)) saw.0)
         (unmake-own env.geometry unmake.geometry unmake.slot unmake.at steps did does.planned saw.1)
-    bind-saw (at.Closing ending) steps did does now saw so unraised =
+    bind-saw (at.Closing ending) steps did does own now saw so unraised =
         closed-saw ending steps did (turning-still env does.caller did does.planned) saw
-    bind-saw (at.Giving give reply) steps did does now saw so unraised =
+    bind-saw (at.Giving give reply) steps did does own now saw so unraised =
         SawFor-push env words_at mix port reply steps did
         (still env did _ does.planned (λ place load. cc) (λ place value adds. cc) (λ table old new l e. cc))
         saw

@@ -8,6 +8,7 @@
 -- so while it unlocks a bucket, closes its section and gives its node back.
 use Rattle.std.proofs.Common.{◌≡◌, ◌⊎◌, ℕ, ◌≤◌, List, [], ◌∷◌, ◌++◌, map, sym, ap, ◌∙◌, append_assoc, subst, inl, inr}
 use Rattle.std.specs.Prelude.{Option, Some, None, IfSome}
+use Rattle.std.specs.List.{AllByRecursion}
 use Rattle.std.proofs.lemmas.List.{map-append}
 use Rattle.rht_words.specs.declared.op.Op.TheVariants.{Load}
 use Rattle.rht_words.specs.declared.env.Env.{Env}
@@ -26,7 +27,7 @@ use Rattle.rht_bind.specs.BindHeld.{answer_of_ending}
 use Rattle.rht_bind.specs.declared.bind.BindAt.{BindAt}
 use Rattle.rht_bind.specs.declared.bind.BindAt.TheVariants as at
 use Rattle.rht_core.specs.Traces.{Did, performed_of}
-use Rattle.rht_core.specs.Seen.{CameTo, IsNoShapeLoad, LastWalked, StaysInSection}
+use Rattle.rht_core.specs.Seen.{CameTo, IsNoShapeLoad, LastWalked, StaysInSection, TurnsNoSection}
 use Rattle.rht_core.specs.ResizeCauses.{IsUnboundAt}
 use Rattle.rht_words.specs.Machines.{GoesOrEnds}
 use Rattle.rht_core.proofs.Reasons.PagesMissed.{SawGrowing, SeesMissing, NoPageSeen, NoPageSeen-push}
@@ -47,7 +48,7 @@ pub record LoadedFull (env : Env) (count : ℕ) (did : Did) : Type 0 where
 
 -- where these are the words before the event with each number
 module _ (env : Env) (words_at : ℕ → List ℕ) (mix : ℕ → ℕ → ℕ → ℕ) (port : ℕ) where
-  -- behind the load of the last table's shape this count was loaded, while the port had no owner
+  -- behind the load of the last table's shape, in the same section, this count was loaded, while the port had no owner
   pub record TooBigSeen (count : ℕ) (steps : List Did) : Type 0 where
     pub table : ℕ
     pub shape : ℕ
@@ -56,6 +57,7 @@ module _ (env : Env) (words_at : ℕ → List ℕ) (mix : ℕ → ℕ → ℕ �
     pub at : Did
     pub rest : List Did
     pub split : walked.behind ≡ before ++ at ∷ rest
+    pub inside : AllByRecursion (TurnsNoSection env.geometry) before
     pub unbound : IsUnboundAt env.geometry words_at port at
     pub full : LoadedFull env count at
 
@@ -70,6 +72,7 @@ module _ (env : Env) (words_at : ℕ → List ℕ) (mix : ℕ → ℕ → ℕ �
     at = saw.at;
     rest = saw.rest ++ did ∷ [];
     split = ap (λ l. l ++ did ∷ []) saw.split ∙ append_assoc saw.before (saw.at ∷ saw.rest) (did ∷ []);
+    inside = saw.inside;
     unbound = saw.unbound;
     full = saw.full;
   }
@@ -90,62 +93,65 @@ module _ (env : Env) (words_at : ℕ → List ℕ) (mix : ℕ → ℕ → ℕ �
   abbrev pub SawForReply : Option Reply → List Did → Type 0
   SawForReply reply steps = IfSome reply (λ r. SawFor r steps)
 
-  -- once the walk has ended: how many nodes it counted in the bucket
-  abbrev pub SawCounted : Claimed → ℕ → List Did → Type 0
-  SawCounted claimed length steps =
-      let counted = HasWalked env.geometry words_at mix port claimed.table claimed.shape claimed.bucket.place length in
-      WalkedSeeing env.geometry claimed.table claimed.shape counted steps
-
   -- behind an unlocking it goes on in a table that it came to, or gives its answer
   abbrev pub SawThen : Then Reply → List Did → Type 0
   SawThen (Table table) steps = CameTo env.geometry table steps
   SawThen (Answer reply) steps = SawFor reply steps
 
-  abbrev pub SawAt : BindAt → List Did → Type 0
-  SawAt (at.Filling new) steps = SawNew env new.at steps
-  SawAt (at.Opening attempt) steps = Unit {0}
-  SawAt (at.CurrentTable attempt) steps = Unit {0}
-  SawAt (at.Locating attempt locate) steps =
-      WalkedAt env.geometry (SeesNoFuture env.geometry words_at mix port) locate.table locate.at steps
-  SawAt (at.Entering attempt table shape place grow) steps =
-      WalkedSeeing env.geometry table shape
-      (SeesMissing env words_at mix port table shape (SawGrowing env.geometry grow.at)) steps
-  SawAt (at.Probing attempt table shape probe) steps =
-      WalkedSeeing env.geometry table shape (WalkCounted env.geometry words_at mix port table shape probe.at) steps
-  SawAt (at.FoundOwner claimed found) steps = Unit {0}
-  SawAt (at.ListLink list) steps = Walked env.geometry list.claimed.table list.claimed.shape steps
-  SawAt (at.ChainLink list) steps = Walked env.geometry list.claimed.table list.claimed.shape steps
-  SawAt (at.LinkBehind list link) steps = Walked env.geometry list.claimed.table list.claimed.shape steps
-  SawAt (at.Replacing list relink) steps = Walked env.geometry list.claimed.table list.claimed.shape steps
-  SawAt (at.Future claimed length) steps = SawCounted claimed length steps
-  SawAt (at.Count claimed) steps =
-      WalkedSeeing env.geometry claimed.table claimed.shape (ShortSeen env words_at mix port claimed.table claimed.shape) steps
-  SawAt (at.Link claimed) steps =
-      WalkedSeeing env.geometry claimed.table claimed.shape (RoomSeen env words_at mix port claimed.table claimed.shape) steps
-  SawAt (at.Raise claimed) steps =
-      WalkedSeeing env.geometry claimed.table claimed.shape (RoomSeen env words_at mix port claimed.table claimed.shape) steps
-  SawAt (at.Publish node table relink kick) steps = Raised env words_at mix port kick steps
-  SawAt (at.Unlocking attempt table unlock next) steps = SawThen next steps
-  SawAt (at.UnlockingFull growing unlock) steps =
-      Behind env.geometry growing.table growing.shape (SawWhy env words_at mix port growing.table growing.why growing.shape) steps
-  SawAt (at.Root growing) steps =
-      Behind env.geometry growing.table growing.shape (SawWhy env words_at mix port growing.table growing.why growing.shape) steps
-  SawAt (at.GrowthCount growing root) steps =
-      Behind env.geometry growing.table growing.shape (SawRoot env words_at mix port growing root) steps
-  SawAt (at.Making growing size make) steps =
-      Behind env.geometry growing.table growing.shape
-      (SawToMake env words_at mix port growing size make.exponent make.nested (make.at, Go)) steps
-  SawAt (at.FutureAgain growing refusal) steps =
-      Behind env.geometry growing.table growing.shape (SawRefusal env words_at mix port growing refusal) steps
-  SawAt (at.Attaching growing slot shape) steps =
-      Behind env.geometry growing.table growing.shape (SawToAttach env words_at mix port growing slot shape) steps
-  SawAt (at.Unmaking attempt unmake answer) steps = SawForReply answer steps × HasTakenSlot env.geometry unmake.slot steps
-  SawAt (at.Closing ending) steps = SawForReply (answer_of_ending ending) steps
-  SawAt (at.Giving give reply) steps = SawFor reply steps
+  -- the caller is this one
+  module _ (c : ℕ) where
+    -- once the walk has ended: how many nodes it counted in the bucket
+    abbrev pub SawCounted : Claimed → ℕ → List Did → Type 0
+    SawCounted claimed length steps =
+        let counted = HasWalked env.geometry words_at mix port claimed.table claimed.shape c claimed.bucket.place length in
+        WalkedSeeing env.geometry claimed.table claimed.shape counted steps
 
-  -- what it has seen once it goes on, and once it has answered
-  abbrev pub SawNext : List Did → BindAt × Next Reply → Type 0
-  SawNext steps next = GoesOrEnds (λ state. SawAt state steps) (λ reply. SawFor reply steps) next
+    -- what it has seen in each state
+    abbrev pub SawAt : BindAt → List Did → Type 0
+    SawAt (at.Filling new) steps = SawNew env new.at steps
+    SawAt (at.Opening attempt) steps = Unit {0}
+    SawAt (at.CurrentTable attempt) steps = Unit {0}
+    SawAt (at.Locating attempt locate) steps =
+        WalkedAt env.geometry (SeesNoFuture env.geometry words_at mix c port) locate.table locate.at steps
+    SawAt (at.Entering attempt table shape place grow) steps =
+        WalkedSeeing env.geometry table shape
+        (SeesMissing env words_at mix port table shape (SawGrowing env.geometry grow.at)) steps
+    SawAt (at.Probing attempt table shape probe) steps =
+        WalkedSeeing env.geometry table shape (WalkCounted env.geometry words_at mix port table shape c probe.at) steps
+    SawAt (at.FoundOwner claimed found) steps = Unit {0}
+    SawAt (at.ListLink list) steps = Walked env.geometry list.claimed.table list.claimed.shape steps
+    SawAt (at.ChainLink list) steps = Walked env.geometry list.claimed.table list.claimed.shape steps
+    SawAt (at.LinkBehind list link) steps = Walked env.geometry list.claimed.table list.claimed.shape steps
+    SawAt (at.Replacing list relink) steps = Walked env.geometry list.claimed.table list.claimed.shape steps
+    SawAt (at.Future claimed length) steps = SawCounted claimed length steps
+    SawAt (at.Count claimed) steps =
+        WalkedSeeing env.geometry claimed.table claimed.shape (ShortSeen env words_at mix port claimed.table claimed.shape) steps
+    SawAt (at.Link claimed) steps =
+        WalkedSeeing env.geometry claimed.table claimed.shape (RoomSeen env words_at mix port claimed.table claimed.shape) steps
+    SawAt (at.Raise claimed) steps =
+        WalkedSeeing env.geometry claimed.table claimed.shape (RoomSeen env words_at mix port claimed.table claimed.shape) steps
+    SawAt (at.Publish node table relink kick) steps = Raised env words_at mix port kick steps
+    SawAt (at.Unlocking attempt table unlock next) steps = SawThen next steps
+    SawAt (at.UnlockingFull growing unlock) steps =
+        Behind env.geometry growing.table growing.shape (SawWhy env words_at mix port growing.table growing.why growing.shape) steps
+    SawAt (at.Root growing) steps =
+        Behind env.geometry growing.table growing.shape (SawWhy env words_at mix port growing.table growing.why growing.shape) steps
+    SawAt (at.GrowthCount growing root) steps =
+        Behind env.geometry growing.table growing.shape (SawRoot env words_at mix port growing root) steps
+    SawAt (at.Making growing size make) steps =
+        Behind env.geometry growing.table growing.shape
+        (SawToMake env words_at mix port growing size make.exponent make.nested (make.at, Go)) steps
+    SawAt (at.FutureAgain growing refusal) steps =
+        Behind env.geometry growing.table growing.shape (SawRefusal env words_at mix port growing refusal) steps
+    SawAt (at.Attaching growing slot shape) steps =
+        Behind env.geometry growing.table growing.shape (SawToAttach env words_at mix port growing slot shape) steps
+    SawAt (at.Unmaking attempt unmake answer) steps = SawForReply answer steps × HasTakenSlot env.geometry unmake.slot steps
+    SawAt (at.Closing ending) steps = SawForReply (answer_of_ending ending) steps
+    SawAt (at.Giving give reply) steps = SawFor reply steps
+
+    -- what it has seen once it goes on, and once it has answered
+    abbrev pub SawNext : List Did → BindAt × Next Reply → Type 0
+    SawNext steps next = GoesOrEnds (λ state. SawAt state steps) (λ reply. SawFor reply steps) next
 
   pub SawFor-push : (reply : Reply) (steps : List Did) (did : Did) → IsStill env did → SawFor reply steps
       → SawFor reply (steps ++ did ∷ [])

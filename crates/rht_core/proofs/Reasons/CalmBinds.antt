@@ -182,11 +182,11 @@ module _ (env : Env) (Good Come : ℕ → Type 0) where
           none-counted port place (number + 1) steps nodes (omega (arith, low, other)) (omega (arith, many)) counts.1
     ]
 
-    calm-future : (mix : ℕ → ℕ → ℕ → ℕ) (port : ℕ) (claimed : Claimed) (length : ℕ) (future : Option ℕ) (steps : List Did)
-        → SawAt env words_at mix port (at.Future claimed length) steps → Good claimed.shape
+    calm-future : (mix : ℕ → ℕ → ℕ → ℕ) (port : ℕ) (claimed : Claimed) (length : ℕ) (future : Option ℕ) (steps : List Did) (by : ℕ)
+        → SawAt env words_at mix port by (at.Future claimed length) steps → Good claimed.shape
         → ((next : ℕ) → future ≡ Some next → Come next) → CalmBind (future_or_count claimed length future)
-    calm-future mix port claimed length (Some next) steps saw good come = come next refl
-    calm-future mix port claimed length None steps saw good come =
+    calm-future mix port claimed length (Some next) steps by saw good come = come next refl
+    calm-future mix port claimed length None steps by saw good come =
         by_test (λ t. CalmBind (cond t (unlocking_full claimed full.Chain) (at.Count claimed))) (nat_le 16 length)
         (λ t.
         let counted = saw.saw.counted in
@@ -203,36 +203,36 @@ module _ (env : Env) (Good Come : ℕ → Type 0) where
 
     -- a calm bind stays calm, or ends so
     pub calm-bind : (mix : ℕ → ℕ → ℕ → ℕ) (port owner : ℕ) (once : Bool) (state : BindAt) (steps : List Did) (did : Did)
-        → Performs mix env (binds port owner once state) did → SawAt env words_at mix port state steps → CalmBind state
+        (by : ℕ) → Performs mix env (binds port owner once state) did → SawAt env words_at mix port by state steps → CalmBind state
         → IsCalmAt state did.old → CalmNext (after_at mix env port once state did.old)
-    calm-bind mix port owner once (at.Filling new) steps did does saw calm is =
+    calm-bind mix port owner once (at.Filling new) steps did by does saw calm is =
         calm-filled (new_node_after new did.old).0 (new_node_after new did.old).1
-    calm-bind mix port owner once (at.Opening attempt) steps did does saw calm is = tt
-    calm-bind mix port owner once (at.CurrentTable attempt) steps did does saw calm is = (is.current attempt refl, tt)
-    calm-bind mix port owner once (at.Locating attempt locate) steps did does saw calm is =
+    calm-bind mix port owner once (at.Opening attempt) steps did by does saw calm is = tt
+    calm-bind mix port owner once (at.CurrentTable attempt) steps did by does saw calm is = (is.current attempt refl, tt)
+    calm-bind mix port owner once (at.Locating attempt locate) steps did by does saw calm is =
         calm-located mix port attempt locate locate.at did.old calm.0 calm.1 (λ shape. is.shape attempt locate refl shape calm.0)
         (λ shape seed. is.flat attempt locate shape refl seed (subst CalmLocate seed calm.1))
-    calm-bind mix port owner once (at.Probing attempt table shape probe) steps did does saw calm is =
+    calm-bind mix port owner once (at.Probing attempt table shape probe) steps did by does saw calm is =
         calm-probed env.config.kind attempt table shape (probe_after probe did.old).0 (probe_after probe did.old).1 calm
-    calm-bind mix port owner once (at.FoundOwner claimed found) steps did does saw calm is = λ refused. absurd (cc)
-    calm-bind mix port owner once (at.ListLink list) steps did does saw calm is = tt
-    calm-bind mix port owner once (at.ChainLink list) steps did does saw calm is = tt
-    calm-bind mix port owner once (at.LinkBehind list link) steps did does saw calm is = tt
-    calm-bind mix port owner once (at.Replacing list relink) steps did does saw calm is =
+    calm-bind mix port owner once (at.FoundOwner claimed found) steps did by does saw calm is = λ refused. absurd (cc)
+    calm-bind mix port owner once (at.ListLink list) steps did by does saw calm is = tt
+    calm-bind mix port owner once (at.ChainLink list) steps did by does saw calm is = tt
+    calm-bind mix port owner once (at.LinkBehind list link) steps did by does saw calm is = tt
+    calm-bind mix port owner once (at.Replacing list relink) steps did by does saw calm is =
         calm-replaced list (relink_after relink).0 (relink_after relink).1
-    calm-bind mix port owner once (at.Future claimed length) steps did does saw calm is =
-        calm-future mix port claimed length (slot_of did.old) steps saw calm (λ next further. is.further claimed length next refl further)
-    calm-bind mix port owner once (at.Count claimed) steps did does saw calm is =
+    calm-bind mix port owner once (at.Future claimed length) steps did by does saw calm is =
+        calm-future mix port claimed length (slot_of did.old) steps by saw calm (λ next further. is.further claimed length next refl further)
+    calm-bind mix port owner once (at.Count claimed) steps did by does saw calm is =
         rw (is.few claimed refl, is.below claimed refl calm) tt
-    calm-bind mix port owner once (at.Link claimed) steps did does saw calm is = tt
-    calm-bind mix port owner once (at.Raise claimed) steps did does saw calm is = tt
-    calm-bind mix port owner once (at.Publish node table relink kick) steps did does saw calm is =
+    calm-bind mix port owner once (at.Link claimed) steps did by does saw calm is = tt
+    calm-bind mix port owner once (at.Raise claimed) steps did by does saw calm is = tt
+    calm-bind mix port owner once (at.Publish node table relink kick) steps did by does saw calm is =
         calm-published node table kick (relink_after relink).0 (relink_after relink).1
-    calm-bind mix port owner once (at.Unlocking attempt table unlock next) steps did does saw calm is =
+    calm-bind mix port owner once (at.Unlocking attempt table unlock next) steps did by does saw calm is =
         calm-unlocked attempt next calm
-    calm-bind mix port owner once (at.Closing ending) steps did does saw calm is = calm-closed ending calm
-    calm-bind mix port owner once (at.Giving give reply) steps did does saw calm is = calm
-    calm-bind mix port owner once _ steps did does saw calm is = absurd calm
+    calm-bind mix port owner once (at.Closing ending) steps did by does saw calm is = calm-closed ending calm
+    calm-bind mix port owner once (at.Giving give reply) steps did by does saw calm is = calm
+    calm-bind mix port owner once _ steps did by does saw calm is = absurd calm
 
   -- its operations leave the words of slots
   pub bind-spares : (c : ℕ) → c < 16 → (state : BindAt) → IsBindAtIn env state → CalmBind state → SparesSlots (plan_at env c state)

@@ -3,9 +3,9 @@
 -- A call is calm while it has met none but the first table, and nothing that leads to another one. By induction over the operations of a
 -- call it stays so: which table is the current one and its future are as at opening, and so is its shape; a count that is loaded is below
 -- its size; and in its chains no 16 nodes are counted, since as many ports would be bound.
-use Rattle.std.proofs.Common.{◌≡◌, ℕ, ◌*◌, ◌/◌, ◌^◌, ◌<◌, ◌≤◌, Bool, true, false, cond, min, max, nat_lt, List, refl, sym, ap, ◌∙◌, subst, arith}
+use Rattle.std.proofs.Common.{◌≡◌, ◌≢◌, ℕ, ◌+◌, ◌*◌, ◌/◌, ◌^◌, ◌<◌, ◌≤◌, Bool, true, false, cond, min, max, nat_lt, List, refl, sym, ap, ◌∙◌, subst, arith}
 use Rattle.std.specs.Prelude.{Option, Some, None, ◌==◌, ◌&&◌}
-use Rattle.std.proofs.lemmas.Bool.{and_parts, ltb-true, leb-true}
+use Rattle.std.proofs.lemmas.Bool.{and_parts, ltb-true, leb-true, ne_eqb}
 use Rattle.rht_words.specs.declared.env.Env.{Env}
 use Rattle.rht_words.specs.declared.geometry.Geometry.{Geometry}
 use Rattle.rht_words.specs.declared.machine.Next.{Next}
@@ -14,7 +14,7 @@ use Rattle.rht_words.specs.Links.{slot_of, table_of}
 use Rattle.rht_words.specs.Machines.{GoesOrEnds}
 use Rattle.rht_words.specs.Opening.{first_slot, opening_word}
 use Rattle.rht_words.specs.Operations.{old_of}
-use Rattle.rht_words.specs.Places.{CurrentTable, PortCount, Slot, ShapeWord, FutureWord, word_at}
+use Rattle.rht_words.specs.Places.{CurrentTable, PortCount, Slot, ShapeWord, FutureWord, StateWord, word_at}
 use Rattle.rht_words.specs.Shapes.{unpacked, size_of}
 use Rattle.rht_words.specs.Sizes.{first_size, wished_size}
 use Rattle.rht_words.proofs.OpeningLaws.{opens_flat}
@@ -35,6 +35,9 @@ use Rattle.rht_move.specs.declared.last_table.LastTableAt.{LastTableAt}
 use Rattle.rht_move.specs.declared.last_table.LastTableAt.TheVariants as last_tables
 use Rattle.rht_move.specs.LastTable.{LastTableModel, last_table_plan_at, last_table_after_at, next_or_shape}
 use Rattle.rht_nest.specs.Tables.{is_nested}
+use Rattle.rht_reclaim.specs.ReturnTables.{ReturnTablesModel, return_tables_plan_at, return_tables_after_at, return_tables_after, state_seen, IsReturnTablesAtIn}
+use Rattle.rht_reclaim.specs.declared.return_tables.ReturnTablesAt.{ReturnTablesAt}
+use Rattle.rht_reclaim.specs.declared.return_tables.ReturnTablesAt.TheVariants as return_tables
 use Rattle.rht_move.specs.Choice.{choice_of, is_sparse}
 use Rattle.rht_move.specs.declared.work.choice.Choice.{Choice}
 use Rattle.rht_move.specs.declared.work.choice.Choice.TheVariants as choices
@@ -154,8 +157,14 @@ module _ (env : Env) where
   CalmSeek (last_tables.Future table) = table ≡ 0
   CalmSeek (last_tables.Shape table) = table ≡ 0
 
+  -- a resizing finds no retired table
+  abbrev pub CalmReturns : ReturnTablesAt → Type 0
+  CalmReturns (return_tables.State slot) = Unit {0}
+  CalmReturns _ = ⊥
+
   abbrev pub CalmWork : WorkAt → Type 0
   CalmWork work_at.WorkLock = Unit {0}
+  CalmWork (work_at.Returning returns) = CalmReturns returns.at
   CalmWork work_at.Opening = Unit {0}
   CalmWork work_at.CurrentTable = Unit {0}
   CalmWork (work_at.LastTable root seek) = CalmSeek seek.at
@@ -224,10 +233,34 @@ module _ (env : Env) where
       abbrev CalmWorkNext : WorkAt × Next Reply → Type 0
       CalmWorkNext next = GoesOrEnds CalmWork (λ reply. is_refusal reply ≡ true → reply ≡ Elsewhere) next
 
-      calm-lock : (lock : ℕ) → CalmWorkNext (work.lock_seen lock)
+      calm-lock : (lock : ℕ) → CalmWorkNext (work.lock_seen env.geometry lock)
       calm-lock lock =
-          by_test (λ t. CalmWorkNext (cond t (work_at.Opening, Go) (work_at.WorkLock, Done Elsewhere))) (lock == 0)
+          by_test (λ t. CalmWorkNext (cond t (work.returning env.geometry, Go) (work_at.WorkLock, Done Elsewhere))) (lock == 0)
           (λ t. tt) (λ f is. refl)
+
+      -- no slot has a retired table
+      unretired : (slot : ℕ) → slot < 8 → word_at env.geometry words (Slot slot StateWord) ≢ 2
+      unretired slot l two = opening (sym (opened.slots slot StateWord l tt) ∙ two)
+        where
+          opening : opening_word env (Slot slot StateWord) ≡ 2 → ⊥
+          opening =
+              by_test (λ t. cond t (first_slot env StateWord) 0 ≡ 2 → ⊥) (slot == 0) (λ t is. omega (arith, is)) (λ f is. omega (arith, is))
+
+      -- so it goes from slot to slot
+      calm-state : (slot state : ℕ) → state ≢ 2 → CalmReturns (state_seen slot state).0
+      calm-state slot state other =
+          rw (ne_eqb state 2 other)
+          (by_test (λ t. CalmReturns (cond {A = ReturnTablesAt × Next (Unit {0})} t (return_tables.State (slot + 1), Go) (return_tables.State slot, Done tt)).0)
+          (nat_lt (slot + 1) 8) (λ t. tt) (λ f. tt))
+
+      calm-returns : (g : Geometry) (state : ReturnTablesAt) (word : ℕ) → CalmReturns state
+          → ((slot : ℕ) → state ≡ return_tables.State slot → word ≢ 2) → CalmReturns (return_tables_after_at g state word).0
+      calm-returns g (return_tables.State slot) word calm unlike = calm-state slot word (unlike slot refl)
+      calm-returns g _ word calm unlike = absurd calm
+
+      calm-returned : (returns : ReturnTablesModel) (next : Next (Unit {0})) → CalmReturns returns.at → CalmWork (work.returned returns next)
+      calm-returned returns Go calm = calm
+      calm-returned returns (Done done) calm = tt
 
       calm-last : (root : ℕ) (seek : LastTableModel) (state : LastTableAt) (word : ℕ) → CalmSeek state
           → ((slot : ℕ) → state ≡ last_tables.Future slot → slot ≡ 0 → slot_of word ≡ None)
@@ -243,6 +276,17 @@ module _ (env : Env) where
       pub calm-work : (state : WorkAt) → (does : Performs mix env (works state) did) → does.words ≡ words → CalmWork state
           → CalmWorkNext (work.after_at mix env state did.old)
       calm-work work_at.WorkLock does now calm = calm-lock did.old
+      calm-work (work_at.Returning returns) does now calm =
+          let plan : did.op ≡ return_tables_plan_at env.geometry returns.at =
+          does.planned ∙ ap (λ (h : Geometry). return_tables_plan_at h returns.at) does.within.geometry_same in
+          let found : did.old ≡ old_of words (return_tables_plan_at env.geometry returns.at) =
+          does.found ∙ ap (old_of does.words) plan ∙ ap (λ w. old_of w (return_tables_plan_at env.geometry returns.at)) now in
+          let after = return_tables_after returns did.old in
+          calm-returned after.0 after.1
+          (calm-returns returns.geometry returns.at did.old calm
+          (λ slot is two.
+          let low : slot < 8 = subst (IsReturnTablesAtIn env.geometry) is does.within.at_in in
+          unretired slot low (sym (found ∙ ap (λ s. old_of words (return_tables_plan_at env.geometry s)) is) ∙ two)))
       calm-work work_at.Opening does now calm = tt
       calm-work work_at.CurrentTable does now calm =
           ap table_of (does.found ∙ ap (old_of does.words) does.planned) ∙ ap (λ w. table_of (word_at env.geometry w CurrentTable)) now

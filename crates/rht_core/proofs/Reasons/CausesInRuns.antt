@@ -76,7 +76,7 @@ module _ (env : Env) (c : ℕ) (words_at : ℕ → List ℕ) (mix : ℕ → ℕ 
   abbrev pub JobSaw : Job → List Did → Type 0
   JobSaw (finds port state) steps = Unit {0}
   JobSaw (binds port owner once state) steps =
-      SawAt env words_at mix port state steps × (SawAttached env state steps × SawUnraised env state steps)
+      SawAt env words_at mix port c state steps × (SawAttached env state steps × SawUnraised env state steps)
   JobSaw (lists port room state) steps = Unit {0}
   JobSaw (releases port owner state) steps = SawRelease env state steps
   JobSaw (rebinds port owner new state) steps = SawAtRebind env state steps
@@ -111,7 +111,7 @@ module _ (M : Type 0) (mix : ℕ → ℕ → ℕ → ℕ) (env : Env) (events : 
   nothing-saw (state, Done end) = tt
 
   pub job-leads : (job : Job) (steps : List Did) (did : Did)
-      → (performs : Performs mix env job did) → performs.caller ≡ c → StandsIn mix env words_at job did performs
+      → (performs : Performs mix env job did) → performs.caller ≡ c → StandsIn mix env words_at job steps did performs
       → JobSaw env c words_at mix job steps
       → LeadsOn M mix env (JobSaw env c words_at mix) EndsSeen job (steps ++ did ∷ [])
       (job_after mix env job did.old)
@@ -121,8 +121,8 @@ module _ (M : Type 0) (mix : ℕ → ℕ → ℕ → ℕ) (env : Env) (events : 
   job-leads (binds port owner once state) steps did performs own now saw =
       next-leads (binds port owner once state) (binds port owner once) plain_ending (steps ++ did ∷ [])
       (after_at mix env port once state did.old)
-      (all-saw env words_at mix port (after_at mix env port once state did.old) (steps ++ did ∷ [])
-      (bind-saw env words_at mix port owner once state steps did performs now saw.0 saw.1.0 saw.1.1)
+      (all-saw env words_at mix port c (after_at mix env port once state did.old) (steps ++ did ∷ [])
+      (bind-saw env words_at mix port c owner once state steps did performs own now saw.0 saw.1.0 saw.1.1)
       (attached-saw env mix performs.caller port once state steps did performs.within.at_in performs.planned saw.1.0)
       (unraised-saw env mix performs.caller port once state steps did performs.planned saw.1.1))
   job-leads (lists port room state) steps did performs own now saw =

@@ -10,7 +10,7 @@
 --
 -- At the event of such a load the port's bucket has its number by the seed in the slot's word, and its word is at its place. That stays so,
 -- and no other bucket of the table ever has the word. So the loads of keys all found one bucket there.
-use Rattle.std.proofs.Common.{◌≡◌, ◌≢◌, ◌⊎◌, ℕ, zero, suc, slice_index, ◌+◌, ◌<◌, ◌≤◌, ◌%◌, ◌==◌, List, [], ◌∷◌, ◌++◌, length, cond, refl, sym, ap, ◌∙◌, subst, inl, inr, arith}
+use Rattle.std.proofs.Common.{◌≡◌, ◌≢◌, ◌⊎◌, ℕ, zero, suc, slice_index, ◌+◌, ◌<◌, ◌≤◌, ◌%◌, ◌==◌, List, [], ◌∷◌, ◌++◌, length, cond, refl, sym, ap, ◌∙◌, subst, inl, inr, arith, append_assoc}
 use Rattle.std.specs.Prelude.{Option, Some, None}
 use Rattle.std.specs.List.{AllByRecursion, Any}
 use Rattle.std.proofs.lemmas.Bool.{eqb-false, eqb-true}
@@ -56,6 +56,8 @@ use Rattle.rht_ghost.proofs.Theory.Knowledge.{IsAtHome, IsReaching, IsDiffering,
 use Rattle.rht_ghost.proofs.Theory.Steps.{mem, by_test}
 use Rattle.rht_ghost.proofs.Pieces.Probes.{place_of_probe, known_walk, known_probe, IsProbeFor, one_more-counted}
 use Rattle.rht_core.proofs.Events.BucketsThere.{StaysAt, BucketsStay}
+use Rattle.rht_core.proofs.Events.UnturnedSections.{unturned-now}
+use Rattle.rht_core.proofs.Reasons.QuietSteps.{UnturnedBehind}
 use Rattle.rht_core.proofs.Meaning.BoundPorts.{still_met}
 use Rattle.rht_core.proofs.Counting.CountedPorts.{members-AreBound}
 use Rattle.rht_core.proofs.Reasons.KeyLoads.{no_key-link, no_key-lock}
@@ -124,59 +126,80 @@ module _ (g : Geometry) (words_at : ℕ → List ℕ) (mix : ℕ → ℕ → ℕ
     whole = Any-append_left (IsWhole g words_at mix port table shape saw.chain.place (length saw.chain.nodes)) steps (did ∷ []) saw.whole;
   }
 
+-- and by this caller
+module _ (g : Geometry) (words_at : ℕ → List ℕ) (mix : ℕ → ℕ → ℕ → ℕ) (port table shape c : ℕ) where
+  -- a bucket with this number, whose word is at this place
+  abbrev FindsIn : ℕ → ℕ → Did → Type 0
+  FindsIn = FindsBucketAt g words_at mix port table shape
+
   -- ---- where the bucket is found
 
-  -- before this event the port's bucket has this number, and from there on its word is at this place
+  -- before this event the port's bucket has this number, and from there on its word is at this place, while the caller's section stays open
   pub record HasPlace (place from : ℕ) : Type 0 where
     pub number : ℕ
     pub number_is : number ≡ bucket_of mix port shape (word_at g (words_at from) (Slot table SeedWord))
     pub within : number < size_of (unpacked shape)
-    pub stays : StaysAt g words_at shape number place from
+    pub stays : StaysAt g words_at c shape number place from
 
-  -- and each load of a key found that bucket there
+  -- where it is now
+  place_now : (place from : ℕ) (has : HasPlace place from) → bucket_in g (words_at from) shape has.number ≡ Some place
+  place_now place from has = has.stays.there from (unturned-now g words_at c from)
+
+  -- it was so at one of these operations, and each load of a key found that bucket there
   pub record FoundAt (place : ℕ) (steps : List Did) : Type 0 where
-    pub from : ℕ
-    pub has : HasPlace place from
-    pub each : AllByRecursion (Finds has.number place) steps
+    pub sooner : List Did
+    pub at : Did
+    pub later : List Did
+    pub split : steps ≡ sooner ++ at ∷ later
+    pub has : HasPlace place at.index
+    pub each : AllByRecursion (FindsIn has.number place) steps
 
   -- so it is of these operations, unless none of them loaded a key
   abbrev pub FoundSoFar : ℕ → List Did → Type 0
   FoundSoFar place steps = AllByRecursion (IsNoKeyLoad g) steps ⊎ FoundAt place steps
 
   finds-nothing : (number place : ℕ) (steps : List Did) → AllByRecursion (IsNoKeyLoad g) steps
-      → AllByRecursion (Finds number place) steps
+      → AllByRecursion (FindsIn number place) steps
   finds-nothing number place steps none =
-      AllByRecursion-weaker (IsNoKeyLoad g) (Finds number place) (λ did no_key node loads. absurd (no_key node loads)) steps none
+      AllByRecursion-weaker (IsNoKeyLoad g) (FindsIn number place) (λ did no_key node loads. absurd (no_key node loads)) steps none
 
   found-still : (place : ℕ) (steps : List Did) (did : Did) → IsNoKeyLoad g did → FoundSoFar place steps
       → FoundSoFar place (steps ++ did ∷ [])
   found-still place steps did no_key (inl none) = inl (AllByRecursion-push (IsNoKeyLoad g) steps did none no_key)
   found-still place steps did no_key (inr found) = inr (record {
-    from = found.from;
+    sooner = found.sooner;
+    at = found.at;
+    later = found.later ++ did ∷ [];
+    split = ap (λ l. l ++ did ∷ []) found.split ∙ append_assoc found.sooner (found.at ∷ found.later) (did ∷ []);
     has = found.has;
-    each = AllByRecursion-push (Finds found.has.number place) steps did found.each (λ node loads. absurd (no_key node loads));
+    each = AllByRecursion-push (FindsIn found.has.number place) steps did found.each (λ node loads. absurd (no_key node loads));
   })
 
   -- one that is at this place at its event found the one that those before it found
-  found-more : (place : ℕ) (steps : List Did) (did : Did) → HasPlace place did.index → FoundSoFar place steps
-      → FoundSoFar place (steps ++ did ∷ [])
-  found-more place steps did has (inl none) = inr (record {
-    from = did.index;
+  found-more : (place : ℕ) (steps : List Did) (did : Did) → UnturnedBehind g words_at c steps did.index → HasPlace place did.index
+      → FoundSoFar place steps → FoundSoFar place (steps ++ did ∷ [])
+  found-more place steps did calm has (inl none) = inr (record {
+    sooner = steps;
+    at = did;
+    later = [];
+    split = refl;
     has = has;
-    each = AllByRecursion-push (Finds has.number place) steps did (finds-nothing has.number place steps none)
-        (λ node loads. record { bucket_is = has.number_is; place_is = has.stays.there did.index (omega arith) });
+    each = AllByRecursion-push (FindsIn has.number place) steps did (finds-nothing has.number place steps none)
+        (λ node loads. record { bucket_is = has.number_is; place_is = place_now place did.index has });
   })
-  found-more place steps did has (inr found) =
+  found-more place steps did calm has (inr found) =
       let number = found.has.number in
-      let later = found.from + did.index in
-      let same : number ≡ has.number = has.stays.only later number (omega arith) found.has.within
-      (found.has.stays.there later (omega arith)) in
+      let same : number ≡ has.number = has.stays.only did.index number (unturned-now g words_at c did.index) found.has.within
+      (found.has.stays.there did.index (calm found.sooner found.at found.later found.split)) in
       inr (record {
-        from = found.from;
+        sooner = found.sooner;
+        at = found.at;
+        later = found.later ++ did ∷ [];
+        split = ap (λ l. l ++ did ∷ []) found.split ∙ append_assoc found.sooner (found.at ∷ found.later) (did ∷ []);
         has = found.has;
-        each = AllByRecursion-push (Finds number place) steps did found.each (λ node loads. record {
+        each = AllByRecursion-push (FindsIn number place) steps did found.each (λ node loads. record {
           bucket_is = same ∙ has.number_is;
-          place_is = ap (bucket_in g (words_at did.index) shape) same ∙ has.stays.there did.index (omega arith);
+          place_is = ap (bucket_in g (words_at did.index) shape) same ∙ place_now place did.index has;
         });
       })
 
@@ -310,19 +333,19 @@ module _ (env : Env) (mix : ℕ → ℕ → ℕ → ℕ) (words_at : ℕ → Lis
       }
 
   -- the bucket of the port in a table is at its place from the event on
-  home-place : (table shape place from : ℕ) → IsAtHome env mix G port table (Some shape) place → words ≡ words_at from
-      → BucketsStay env mix words_at G from → HasPlace g words_at mix port table shape place from
+  home-place : (table shape place from : ℕ) → IsAtHome env mix c G port table (Some shape) place → words ≡ words_at from
+      → BucketsStay env mix words_at c G from → HasPlace g words_at mix port table shape c place from
   home-place table shape place from is now stay =
       let τ = is.passing.at.table in
       let number = hash_in env mix G port τ in
       let below = hash-below env mix M G whole port τ in
       let number_is = hash_in-words env mix words G whole port table (G.table τ).shape is.passing.at refl in
-      subst (λ s. HasPlace g words_at mix port table s place from) is.shape_is (record {
+      subst (λ s. HasPlace g words_at mix port table s c place from) is.shape_is (record {
         number = number;
         number_is = subst (λ ws. number ≡ bucket_of mix port (G.table τ).shape (word_at g ws (Slot table SeedWord))) now number_is;
         within = below;
-        stays = subst (λ p. StaysAt g words_at (G.table τ).shape number p from) (place_at-index env mix place is.bucket)
-            (stay τ number (word_index env mix place) (at-there env mix whole.tables table is.passing.at) below is.here).0;
+        stays = subst (λ p. StaysAt g words_at c (G.table τ).shape number p from) (place_at-index env mix place is.bucket)
+            (stay τ number (word_index env mix place) (at-there is.passing.at) is.passing.since below is.here).0;
       })
 
   -- ---- the end of a walk
@@ -332,12 +355,12 @@ module _ (env : Env) (mix : ℕ → ℕ → ℕ → ℕ) (words_at : ℕ → Lis
   none_met zero = refl
   none_met (suc fuel) = refl
 
-  empty-whole : (table shape place found : ℕ) (did : Did) → HasPlace g words_at mix port table shape place did.index
+  empty-whole : (table shape place found : ℕ) (did : Did) → HasPlace g words_at mix port table shape c place did.index
       → slice_index words place ≡ found → words ≡ words_at did.index → node_of g.nodes (head_of place found) ≡ None
       → IsWhole g words_at mix port table shape place 0 did
   empty-whole table shape place found did there word now none = record {
     bucket = there.number;
-    has = record { bucket_is = there.number_is; place_is = there.stays.there did.index (omega arith) };
+    has = record { bucket_is = there.number_is; place_is = place_now g words_at mix port table shape c place did.index there };
     many = subst (λ w. length (bucket_nodes g w (Some place)) ≡ 0) now
         (ap length (ap (λ w. chain_from g words g.nodes (node_of g.nodes (head_of place w))) word
         ∙ ap (chain_from g words g.nodes) none ∙ none_met g.nodes));
@@ -374,7 +397,7 @@ module _ (env : Env) (mix : ℕ → ℕ → ℕ → ℕ) (words_at : ℕ → Lis
           absurd (none-some none (ap (node_of g.nodes) cut.1.0 ∙ links_tell_apart.link_names g.nodes next among))
 
   ended-whole : (table shape place word node : ℕ) (before : Option ℕ) (count : ℕ) (did : Did)
-      → HasPlace g words_at mix port table shape place did.index → IsDiffering env mix c M G place word port node before count
+      → HasPlace g words_at mix port table shape c place did.index → IsDiffering env mix c M G place word port node before count
       → M (Node node ChainLink) ≡ did.old → words ≡ words_at did.index → node_of g.nodes did.old ≡ None
       → IsWhole g words_at mix port table shape place count did
   ended-whole table shape place word node before count did there is link now none =
@@ -385,7 +408,7 @@ module _ (env : Env) (mix : ℕ → ℕ → ℕ → ℕ) (words_at : ℕ → Lis
       (still_met env mix words G whole j below (held-no_entry env mix M G whole j c lock.holder) lock.still) in
       record {
         bucket = there.number;
-        has = record { bucket_is = there.number_is; place_is = there.stays.there did.index (omega arith) };
+        has = record { bucket_is = there.number_is; place_is = place_now g words_at mix port table shape c place did.index there };
         many = subst (λ w. length (bucket_nodes g w (Some place)) ≡ count) now
             (ap length met ∙ last-node place word node before count is (ap (node_of g.nodes) link ∙ none));
       }
@@ -393,54 +416,54 @@ module _ (env : Env) (mix : ℕ → ℕ → ℕ → ℕ) (words_at : ℕ → Lis
   -- ---- an operation of the walk
 
   walk-counted : (table shape place word : ℕ) (walk : LockedWalkModel) (state : LockedWalkAt) (steps : List Did) (did : Did)
-      → IsWalkAtIn g walk.before state → walk.key ≡ port → HasPlace g words_at mix port table shape place did.index
+      → IsWalkAtIn g walk.before state → walk.key ≡ port → UnturnedBehind g words_at c steps did.index → HasPlace g words_at mix port table shape c place did.index
       → BucketMeans env mix c M G (known_walk place word port walk.before walk.length state)
       → did.op ≡ walk_plan_at g state → walk.geometry ≡ g → did.old ≡ old_of words did.op → words ≡ words_at did.index
-      → HasCounted g words_at mix port table shape place walk.length steps
-      → CountedWalk g words_at mix port table shape place (walk_after_at walk state did.old) (steps ++ did ∷ [])
-  walk-counted table shape place word walk (walks.Key node) steps did within key there knows is same old now has =
+      → HasCounted g words_at mix port table shape c place walk.length steps
+      → CountedWalk g words_at mix port table shape c place (walk_after_at walk state did.old) (steps ++ did ∷ [])
+  walk-counted table shape place word walk (walks.Key node) steps did within key calm there knows is same old now has =
       let further = one_more-counted env mix c port M G whole place word node walk.before walk.length knows in
       let counted_so = knows.counted in
       let many = has.many in
       let longer = length_push has.nodes node in
-      let more : did.old ≢ port → HasCounted g words_at mix port table shape place (one_more walk.length) (steps ++ did ∷ []) =
+      let more : did.old ≢ port → HasCounted g words_at mix port table shape c place (one_more walk.length) (steps ++ did ∷ []) =
       λ differs. record {
         nodes = has.nodes ++ node ∷ [];
         counted = counted-more g words_at port place 0 steps has.nodes walk.length node did (omega (arith, many))
             (key-counts place word node walk.before walk.length did within.0 knows is now differs) has.counted;
         many = omega (arith, further, counted_so, many, longer);
-        found = found-more g words_at mix port table shape place steps did there has.found;
+        found = found-more g words_at mix port table shape c place steps did calm there has.found;
       } in
       let found : LockedWalkModel × Next Seen = (counted walk, Done (found_at (counted walk) node)) in
       let other : LockedWalkModel × Next Seen = (record (counted walk) { at = walks.ChainLink node }, Go) in
-      by_test (λ t. CountedWalk g words_at mix port table shape place (cond t found other) (steps ++ did ∷ []))
+      by_test (λ t. CountedWalk g words_at mix port table shape c place (cond t found other) (steps ++ did ∷ []))
       (did.old == walk.key) (λ t. tt) (λ f. more (subst (λ k. did.old ≢ k) key (eqb-false did.old walk.key f)))
-  walk-counted table shape place word walk (walks.ChainLink node) steps did within key there knows is same old now has =
-      followed-counted g words_at mix port table shape place walk node did.old (node_of walk.geometry.nodes did.old)
+  walk-counted table shape place word walk (walks.ChainLink node) steps did within key calm there knows is same old now has =
+      followed-counted g words_at mix port table shape c place walk node did.old (node_of walk.geometry.nodes did.old)
       (steps ++ did ∷ [])
       (λ none. Any-push (IsWhole g words_at mix port table shape place walk.length) steps did
       (ended-whole table shape place word node walk.before walk.length did there knows (sym (old ∙ ap (old_of words) is)) now
       (subst (λ (of : Geometry). node_of of.nodes did.old ≡ None) same none)))
-      (HasCounted-push g words_at mix port table shape place walk.length steps did (no_key-link g did node is) has)
+      (HasCounted-push g words_at mix port table shape c place walk.length steps did (no_key-link g did node is) has)
 
   pub probe-counted : (table shape : ℕ) (h : Geometry) (key : ℕ) (state : ProbeAt) (steps : List Did) (did : Did)
-      → IsProbeAtIn g state → IsProbeFor port state → IsAtHome env mix G port table (Some shape) (place_of_probe state)
+      → IsProbeAtIn g state → IsProbeFor port state → IsAtHome env mix c G port table (Some shape) (place_of_probe state)
       → BucketMeans env mix c M G (known_probe port state) → did.op ≡ probe_plan_at state
-      → h ≡ g → did.old ≡ old_of words did.op → words ≡ words_at did.index → BucketsStay env mix words_at G did.index
-      → WalkCounted g words_at mix port table shape state steps
-      → CountedNext g words_at mix port table shape (probe_after_at h key state did.old) (steps ++ did ∷ [])
-  probe-counted table shape h key (probes.Locking lock) steps did within for home knows is same old now stay has =
-      lock-counted g words_at mix port table shape h key lock lock.at did.old (steps ++ did ∷ [])
+      → h ≡ g → did.old ≡ old_of words did.op → words ≡ words_at did.index → BucketsStay env mix words_at c G did.index
+      → UnturnedBehind g words_at c steps did.index → WalkCounted g words_at mix port table shape c state steps
+      → CountedNext g words_at mix port table shape c (probe_after_at h key state did.old) (steps ++ did ∷ [])
+  probe-counted table shape h key (probes.Locking lock) steps did within for home knows is same old now stay calm has =
+      lock-counted g words_at mix port table shape c h key lock lock.at did.old (steps ++ did ∷ [])
       (λ found at exchanged none. Any-push (IsWhole g words_at mix port table shape lock.place 0) steps did
       (empty-whole table shape lock.place found did (home-place table shape lock.place did.index home now stay)
       (sym (old ∙ ap (old_of words) (is ∙ ap (lock_plan_at lock.place) at)) ∙ exchanged) now
       (subst (λ (of : Geometry). node_of of.nodes (head_of lock.place found) ≡ None) same none)))
-      (HasCounted-push g words_at mix port table shape lock.place 0 steps did
+      (HasCounted-push g words_at mix port table shape c lock.place 0 steps did
       (no_key-lock g did lock.place lock.at within.place_in is) has)
-  probe-counted table shape h key (probes.Walking bucket walk) steps did within for home knows is same old now stay has =
+  probe-counted table shape h key (probes.Walking bucket walk) steps did within for home knows is same old now stay calm has =
       let planned = is ∙ ap (λ (of : Geometry). walk_plan_at of walk.at) within.walk_in.geometry_same in
-      walk_taken-counted g words_at mix port table shape bucket (walk_after_at walk walk.at did.old) (steps ++ did ∷ [])
-      (walk-counted table shape bucket.place bucket.word walk walk.at steps did within.walk_in.at_in for
+      walk_taken-counted g words_at mix port table shape c bucket (walk_after_at walk walk.at did.old) (steps ++ did ∷ [])
+      (walk-counted table shape bucket.place bucket.word walk walk.at steps did within.walk_in.at_in for calm
       (home-place table shape bucket.place did.index home now stay) knows planned within.walk_in.geometry_same old now has)
 
   -- the bucket in which they were counted is one of the table's, whether a key was loaded or none
@@ -449,25 +472,25 @@ module _ (env : Env) (mix : ℕ → ℕ → ℕ → ℕ) (words_at : ℕ → Lis
     pub within : bucket < size_of (unpacked shape)
     pub each : AllByRecursion (FindsBucketAt g words_at mix port table shape bucket place) steps
 
-  found-in : (table shape place : ℕ) (steps : List Did) → IsAtHome env mix G port table (Some shape) place
-      → FoundSoFar g words_at mix port table shape place steps → FoundIn table shape place steps
-  found-in table shape place steps is (inl none) =
+  found-in : (table shape by place : ℕ) (steps : List Did) → IsAtHome env mix c G port table (Some shape) place
+      → FoundSoFar g words_at mix port table shape by place steps → FoundIn table shape place steps
+  found-in table shape by place steps is (inl none) =
       let τ = is.passing.at.table in
       let number = hash_in env mix G port τ in
       record {
         bucket = number;
         within = subst (λ s. number < size_of (unpacked s)) is.shape_is (hash-below env mix M G whole port τ);
-        each = finds-nothing g words_at mix port table shape number place steps none;
+        each = finds-nothing g words_at mix port table shape by number place steps none;
       }
-  found-in table shape place steps is (inr found) =
+  found-in table shape by place steps is (inr found) =
       record { bucket = found.has.number; within = found.has.within; each = found.each }
 
   -- the nodes that were counted in a port's bucket are its chain, of which this is so
-  abbrev chain-counted : (Many : ℕ → Type 0) (table shape place count : ℕ) (steps : List Did)
-      → IsAtHome env mix G port table (Some shape) place → Many count → HasCounted g words_at mix port table shape place count steps
+  abbrev chain-counted : (Many : ℕ → Type 0) (table shape by place count : ℕ) (steps : List Did)
+      → IsAtHome env mix c G port table (Some shape) place → Many count → HasCounted g words_at mix port table shape by place count steps
       → SawChain g words_at mix port table shape Many steps
-  chain-counted Many table shape place count steps is so has =
-      let found = found-in table shape place steps is has.found in
+  chain-counted Many table shape by place count steps is so has =
+      let found = found-in table shape by place steps is has.found in
       record {
         bucket = found.bucket;
         within = found.within;
@@ -479,17 +502,17 @@ module _ (env : Env) (mix : ℕ → ℕ → ℕ → ℕ) (words_at : ℕ → Lis
       }
 
   -- 16 or more are a long one
-  pub long-counted : (table shape place count : ℕ) (steps : List Did) → IsAtHome env mix G port table (Some shape) place
-      → 16 ≤ count → HasWalked g words_at mix port table shape place count steps
+  pub long-counted : (table shape by place count : ℕ) (steps : List Did) → IsAtHome env mix c G port table (Some shape) place
+      → 16 ≤ count → HasWalked g words_at mix port table shape by place count steps
       → SawLongChain g words_at mix port table shape steps
-  long-counted table shape place count steps is enough has =
-      chain-counted (λ many. 16 ≤ many) table shape place count steps is enough has.counted
+  long-counted table shape by place count steps is enough has =
+      chain-counted (λ many. 16 ≤ many) table shape by place count steps is enough has.counted
 
   -- and fewer a short one
-  pub short-counted : (table shape place count : ℕ) (steps : List Did) → IsAtHome env mix G port table (Some shape) place
-      → count < 16 → HasWalked g words_at mix port table shape place count steps
+  pub short-counted : (table shape by place count : ℕ) (steps : List Did) → IsAtHome env mix c G port table (Some shape) place
+      → count < 16 → HasWalked g words_at mix port table shape by place count steps
       → SawShortChain g words_at mix port table shape steps
-  short-counted table shape place count steps is few has = record {
-    chain = chain-counted (λ many. many < 16) table shape place count steps is few has.counted;
+  short-counted table shape by place count steps is few has = record {
+    chain = chain-counted (λ many. many < 16) table shape by place count steps is few has.counted;
     whole = subst (λ n. Any (IsWhole g words_at mix port table shape place n) steps) has.counted.many has.whole;
   }

@@ -1,7 +1,7 @@
 -- What is kept of each operation of a call, with those before it: where it changes a word of a slot's table the call has the slot, or attaches
 -- the table that it has made. It makes another table the current one only as a resizing, takes, gives back and retires slots as it may, and
 -- enters a missing page only on its way.
-use Rattle.std.proofs.Common.{◌≡◌, ◌⊎◌, ◌*◌, ◌<◌, ℕ, true, false, List, [], ◌∷◌, ◌++◌, Some, inl, inr, refl, sym, ap, ◌∙◌, subst, arith}
+use Rattle.std.proofs.Common.{◌≡◌, ◌⊎◌, ◌*◌, ◌%◌, ◌<◌, ℕ, true, false, List, [], ◌∷◌, ◌++◌, Option, Some, None, inl, inr, refl, sym, ap, ◌∙◌, subst, arith}
 use Rattle.std.specs.Prelude.{min, max, ◌≤◌, take, drop}
 use Rattle.std.specs.List.{AllByRecursion}
 use Rattle.rht_words.specs.declared.env.Env.{Env}
@@ -10,23 +10,24 @@ use Rattle.rht_words.specs.declared.machine.Next.{Next}
 use Rattle.rht_words.specs.declared.machine.Next.TheVariants.{Go, Done}
 use Rattle.rht_words.specs.Machines.{GoesOrEnds}
 use Rattle.rht_words.specs.Members.{In}
-use Rattle.rht_words.specs.Places.{Slot, ShapeWord, FutureWord, PageWord, place_of, word_at, CurrentTable, StateWord}
+use Rattle.rht_words.specs.Places.{Slot, ShapeWord, FutureWord, PageWord, Section, place_of, word_at, CurrentTable, StateWord}
 use Rattle.rht_words.specs.Shapes.{unpacked, size_of}
-use Rattle.rht_words.proofs.EachElement.{AllByRecursion-cut, AllByRecursion-push}
+use Rattle.rht_words.proofs.EachElement.{AllByRecursion-cut, AllByRecursion-push, AllByRecursion-weaker}
 use Rattle.rht_nest.specs.Tables.{is_nested, pages_of_shape}
 use Rattle.rht_model.specs.declared.history.Call.{Call}
 use Rattle.rht_model.specs.declared.history.Call.TheVariants.{Bind, Work}
 use Rattle.rht_model.specs.Endings.{Ending}
 use Rattle.rht_bind.specs.declared.bind.growth.Growing.{Growing}
-use Rattle.rht_stands.specs.StandsFor.{in_force, tables_from}
+use Rattle.rht_nest.specs.Place.{nested_place}
+use Rattle.rht_stands.specs.StandsFor.{in_force, tables_from, shape_of}
 use Rattle.rht_core.specs.declared.event.Event.{Event}
 use Rattle.rht_core.specs.Jobs.{Job, call_of, job_after, held_of, held_next, IsFirstJob}
 use Rattle.rht_core.specs.Runs.{IsAdmitted, IsAdmittedEvent}
 use Rattle.rht_core.specs.Traces.{Did, performed_of}
-use Rattle.rht_core.specs.Seen.{words_before}
+use Rattle.rht_core.specs.Seen.{StaysInSection, TurnsNoSection, words_before}
 use Rattle.rht_core.specs.ResizeCauses.{Attaches}
-use Rattle.rht_core.specs.Attached.{ChangesMissing, EnterCause, HasGoneOn, ChangesWorkLock, HasWorkLock, WorkLockCause, ChangesTable, ChangesCurrent, MovesOn, HasTakenSlot, EachBehind, AttachesDue, IsOwnTable, ChangesState, StateCause, MakesTables, RetiresTable}
-use Rattle.rht_ghost.proofs.Theory.Ghosts.{Ghost, PageHeld, has_table, SlotHeld, index_at}
+use Rattle.rht_core.specs.Attached.{ChangesMissing, ChangesLeading, ChangesKept, KeepsWordOf, EnterCause, HasGoneOn, ChangesWorkLock, HasWorkLock, WorkLockCause, ChangesTable, ChangesCurrent, MovesOn, HasTakenSlot, EachBehind, AttachesDue, IsOwnTable, ChangesState, StateCause, MakesTables, RetiresTable, ReturnsRetired}
+use Rattle.rht_ghost.proofs.Theory.Ghosts.{Ghost, IsSince, PageHeld, has_table, SlotHeld, index_at}
 use Rattle.rht_ghost.proofs.Theory.Wholes.{Whole, force-there, IsThere, AreThereFrom, slot-there}
 use Rattle.rht_ghost.proofs.Theory.Steps.{mem, ghost_after, Holding, Does}
 use Rattle.rht_words.specs.Operations.{op_value}
@@ -45,14 +46,16 @@ use Rattle.rht_core.proofs.Meaning.TablesInForce.{in_force_is, leads_to_current}
 use Rattle.rht_core.proofs.Tracing.TracedJobs.{Performs, StandsIn, LeadsOn}
 use Rattle.rht_core.proofs.Reasons.MadeSizes.{made_flat}
 use Rattle.rht_core.proofs.Reasons.SlotsTaken.{each-push}
-use Rattle.rht_core.proofs.Reasons.TableWordsKept.{FitBefore, by_move, current_by_move, StateHere, state_by_move, TakesWorkHere, GivesWorkHere, lock_by_move, worker_by_move}
+use Rattle.rht_core.proofs.Reasons.TableWordsKept.{FitBefore, KeepsHere, kept_by_move, by_move, current_by_move, StateHere, state_by_move, TakesWorkHere, GivesWorkHere, lock_by_move, worker_by_move}
 use Rattle.rht_core.proofs.Reasons.RefusedBinds.{Behind, SawToAttach, attach-taken}
-use Rattle.rht_core.proofs.Reasons.OwnTables.{own_slot, moving_works, moving_has, AttachesNow, attaches_now, by_bind, by_work, slot_makes}
+use Rattle.rht_core.proofs.Reasons.OwnTables.{own_slot, moving_works, moving_has, AttachesNow, attaches_now, by_bind, by_work, slot_makes, IsReturning, by_returning, attaching_other, slotless_returns, back_returns, still_returning}
 use Rattle.rht_words.specs.declared.op.Op.TheVariants.{Load, Store}
 use Rattle.rht_words.specs.Operations.{old_of, applied}
-use Rattle.rht_words.specs.Links.{page_of, table_of}
+use Rattle.rht_words.specs.Links.{page_of, entry_of, table_of}
+use Rattle.rht_core.specs.TablePages.{IsEntryOfTable}
 use Rattle.rht_core.specs.Refused.{PutsPage, HasTaken, IsWaysEnd}
-use Rattle.rht_core.proofs.Events.TablesThere.{HadTable}
+use Rattle.rht_core.proofs.Events.TablesThere.{HadTable, HasStayed}
+use Rattle.rht_core.proofs.Tracing.UnturnedSteps.{UnturnedTo}
 use Rattle.rht_core.proofs.Undoing.EnteredWords.{missing_is_entry}
 use Rattle.rht_ghost.proofs.Theory.Knowledge.{TableMeans}
 use Rattle.rht_ghost.proofs.Pieces.OpenEntries.{known_growing}
@@ -60,12 +63,17 @@ use Rattle.rht_core.proofs.Reasons.PagesMissed.{misses-page}
 use Rattle.rht_core.proofs.Undoing.LocksLetGo.{IsEarly, early}
 use Rattle.rht_core.proofs.Undoing.PastRefusal.{is_past}
 use Rattle.rht_core.proofs.Undoing.EnteringBinds.{saw-came}
-use Rattle.rht_core.proofs.Undoing.MissingKept.{EntersThere, EntersNow, by_entering, entered_by_move, enters_now}
+use Rattle.rht_core.proofs.Reasons.EntriesCleared.{ends_nowhere, cleared_leads, entry_used, cleared_apart}
+use Rattle.rht_core.proofs.Reasons.SlotsFreed.{returns-spare, returns-free}
+use Rattle.rht_core.proofs.Undoing.MissingKept.{EntersThere, ClearsThere, EntersNow, by_entering, entered_by_move, enters_now}
+use Rattle.rht_core.proofs.Undoing.WorkStages as stages
+use Rattle.rht_core.proofs.Undoing.WorkStages.{stage_of}
 use Rattle.rht_core.proofs.Undoing.RefusedCalls as refusals
 use Rattle.rht_core.proofs.Reasons.CausesInRuns.{JobSaw, EndsSeen, job-leads}
 use Rattle.rht_core.proofs.Reasons.WorksSeen.{to_attach-taken}
-use Rattle.rht_core.proofs.Reasons.TablesLeft.{gone_on}
-use Rattle.rht_core.proofs.Reasons.WorksPages.{HadOrTakes, held_by_move, pages-mine, unless_given, enters-binds}
+use Rattle.rht_core.proofs.Reasons.TablesLeft.{retires_now, gone_on, KeepsNow, by_keeping, keeps_now}
+use Rattle.rht_core.proofs.Reasons.WordsKept.{keeps-word}
+use Rattle.rht_core.proofs.Reasons.WorksPages.{enters-behind, HadOrTakes, held_by_move, pages-mine, unless_given, enters-binds}
 use Rattle.rht_arena.specs.RunLaws.{GivesPage}
 use Rattle.rht_ghost.proofs.Theory.Departures.{CanRetire}
 
@@ -110,17 +118,24 @@ module _ (M : Type 0) (mix : ℕ → ℕ → ℕ → ℕ) (env : Env) (events : 
     pub current : ChangesCurrent g did → (call ≡ Work) × HasWorkLock g before × MovesOn g (words_at did.index) did
     pub states : (slot : ℕ) → ChangesState g slot did → StateCause M mix env events c call slot before did
     pub entries : (entry : ℕ) (changed : ChangesMissing g (words_at did.index) before entry did)
-        → HadTable g words_at did.index changed.table → EnterCause g words_at mix call entry before did
+        → HadTable g words_at c did.index changed.table → EnterCause g words_at mix call entry before did
+    pub leading : (index : ℕ) (changed : ChangesLeading g (words_at did.index) before index did)
+        → HadTable g words_at c did.index changed.table
+        → In changed.table (in_force g (words_at did.index)) ⊎ (word_at g (words_at did.index) (Section c) % 2 ≡ 1) → ⊥
+    pub kept : (slot caller : ℕ) → ChangesKept g slot caller did → (call ≡ Work) × KeepsWordOf g slot caller before did
+    -- from each operation on from which on none turned the caller's section word, that stayed
+    pub few : c < 16
+    pub unturned : UnturnedTo g words_at c before did.index
     pub work : ChangesWorkLock g did → WorkLockCause g call before did
 
   -- a call that has the work lock has taken it by an operation of its own
   abbrev pub HasTakenWork : Job → List Did → Type 0
   HasTakenWork job steps = (held_of job).worker ≡ true → HasWorkLock g steps
 
-  -- and a resizing each page that it has
+  -- and a resizing each page that it has, unless it gives back retired tables
   abbrev pub HasTakenPages : Job → List Did → Type 0
   HasTakenPages job steps =
-      call_of job ≡ Work → (page : ℕ) → In page (held_of job).pages → (page < g.pages) × HasTaken g page steps
+      call_of job ≡ Work → (page : ℕ) → In page (held_of job).pages → ((page < g.pages) × HasTaken g page steps) ⊎ IsReturning job
 
   abbrev pub Now : Job → List Did → Type 0
   Now job steps =
@@ -178,13 +193,13 @@ module _ (M : Type 0) (mix : ℕ → ℕ → ℕ → ℕ) (env : Env) (events : 
     }
 
     -- a call that may still be refused, and has told no answer, has taken the pages that it has
-    has_taken : (job : Job) → IsEarly job → refusals.Going M mix env events c job steps → (page : ℕ) → In page (held_of job).pages
-        → HasTaken g page steps
-    has_taken job is_early going page has = elim going [
+    has_taken : (job : Job) → IsEarly job → stage_of job ≡ stages.Behind → refusals.Going M mix env events c job steps → (page : ℕ)
+        → In page (held_of job).pages → HasTaken g page steps
+    has_taken job is_early stage going page has = elim going [
       | inl past ↦ absurd (both_ways (is_past job) is_early.not_past past)
       | inr goes_on ↦ elim goes_on [
         | inl says ↦ absurd (is_early.untold says)
-        | inr may ↦ may.undoes.took page has
+        | inr may ↦ (subst (λ s. refusals.UndoesInStage M mix env events c s job steps) stage may.undoes).took page has
       ]
     ]
 
@@ -203,7 +218,7 @@ module _ (M : Type 0) (mix : ℕ → ℕ → ℕ → ℕ) (env : Env) (events : 
           shape_is = subst (λ ws. word_at g ws (Slot slot ShapeWord) ≡ shape) now made.shape_is;
           none_behind = subst (λ ws. word_at g ws (Slot slot FutureWord) ≡ 0) now made.future_is;
           nested = nested_many slot shape performs.caller (mem env mix performs.words) performs.ghost made;
-          pages = has_taken _ (record { not_past = refl; untold = λ says. says }) going;
+          pages = has_taken _ (record { not_past = refl; untold = λ says. says }) refl going;
           cause = record { growing = growing; table_is = same; seen = saw.0 };
         }
     attaching job table slot (by_work root last shape same) attaches performs now saw going paged =
@@ -220,11 +235,15 @@ module _ (M : Type 0) (mix : ℕ → ℕ → ℕ → ℕ) (env : Env) (events : 
           shape_is = subst (λ ws. word_at g ws (Slot slot ShapeWord) ≡ shape) now made.shape_is;
           none_behind = subst (λ ws. word_at g ws (Slot slot FutureWord) ≡ 0) now made.future_is;
           nested = nested_many slot shape performs.caller (mem env mix performs.words) performs.ghost made;
-          pages = λ page i. (paged refl page i).1;
+          pages = λ page i. elim (paged refl page i) [
+            | inl taken ↦ taken.1
+            | inr returning ↦ absurd (attaching_other root last slot shape returning)
+          ];
           cause = record {
             size = saw.0;
             chose = since.chose;
             last = since.so.last_same ∙ same;
+            inside = since.so.inside;
             stored = since.so.stored;
             numbered = since.so.numbered;
             sized = since.so.size_is;
@@ -242,7 +261,7 @@ module _ (M : Type 0) (mix : ℕ → ℕ → ℕ → ℕ) (env : Env) (events : 
         let here : place_of g (PageWord place.entry) ≡ place_of g (PageWord entry) =
         ap (λ (h : Geometry). place_of h (PageWord place.entry)) (sym same_g) ∙ sym performs.knows.fits ∙ on in
         let same : place.entry ≡ entry = omega (arith, here) in
-        let on_way = subst (λ a. TableMeans env mix performs.ghost (known_growing port table shape place a)) at_is
+        let on_way = subst (λ a. TableMeans env mix performs.caller performs.ghost (known_growing port table shape place a)) at_is
         performs.knows.knowing.means.table in
         let unset : mem env mix performs.words (PageWord place.entry) ≡ 0 =
         ap (λ i. mem env mix performs.words (PageWord i)) same ∙ sym (ap (old_of performs.words) enters.exchanges) ∙ sym performs.found
@@ -257,6 +276,8 @@ module _ (M : Type 0) (mix : ℕ → ℕ → ℕ → ℕ) (env : Env) (events : 
           table = table;
           shape = shape;
           walked = saw.0.walked.last;
+          inside =
+              AllByRecursion-weaker (StaysInSection g) (TurnsNoSection g) (λ other stays. stays.1) saw.0.walked.last.behind saw.0.walked.in_attempt;
           bucket = missing.bucket;
           bucket_is = missing.bucket_is;
           within = missing.within;
@@ -271,16 +292,67 @@ module _ (M : Type 0) (mix : ℕ → ℕ → ℕ → ℕ) (env : Env) (events : 
         let page = there.page in
         let is_early = early env mix performs.caller (mem env mix performs.words) performs.ghost did entry page there.does.entering job
         performs.within performs.planned there.does.had in
-        let took = has_taken job is_early going page there.does.had in
-        entering job entry page
-        (enters_now env mix performs.caller (mem env mix performs.words) performs.ghost did entry page there.does.entering job performs.within
-        performs.planned there.does.had) performs now saw took
+        let enters = enters_now env mix performs.caller (mem env mix performs.words) performs.ghost did entry page there.does.entering job
+        performs.within performs.planned there.does.had in
+        let took = has_taken job is_early (enters-behind env entry page job enters) going page there.does.had in
+        entering job entry page enters performs now saw took
         (record {
           page_in = there.ready.among;
           entry_in = low;
           exchanges = there.does.entering;
           found = there.does.found;
         })
+
+    -- an entry at which a way ends isn't cleared
+    uncleared : (job : Job) (entry slot : ℕ) (performs : Performs mix env job did) → IsWaysEnd g performs.words slot entry
+        → ClearsThere env mix performs.caller performs.ghost did (held_of job) (held_next (job_after mix env job did.old)) entry → ⊥
+    uncleared job entry slot performs way there =
+        let words = performs.words in
+        let none = ends_nowhere (λ i. word_at g words (PageWord i)) (nested_place g (shape_of g words slot) way.bucket) entry way.ends in
+        let old : word_at g words (PageWord entry) ≡ entry_of there.page =
+        sym (performs.found ∙ ap (old_of words) there.does.clearing) ∙ there.does.found in
+        let leads = cleared_leads env mix performs.caller (mem env mix words) performs.ghost performs.whole entry there.page there.can in
+        let both : ◌≡◌ {A = Option ℕ} None (Some there.page) = sym none ∙ ap (page_of g.pages) old ∙ leads in
+        cc
+
+    -- what the operation does to what the call has
+    pub does_now : (job : Job) (performs : Performs mix env job did)
+        → Does env mix performs.step.move did.op did.old (held_of job) (held_next (job_after mix env job did.old))
+    does_now job performs =
+        subst (λ old. Does env mix performs.step.move did.op old (held_of job) (held_next (job_after mix env job did.old)))
+        (sym performs.found) performs.step.does
+
+    -- an entry that leads to a page isn't changed, where its table is in force, or the caller's open section comes to it
+    unled : (job : Job) (index : ℕ) (performs : Performs mix env job did) → performs.words ≡ words_at did.index → performs.caller ≡ c
+        → FitBefore did → (changed : ChangesLeading g (words_at did.index) steps index did)
+        → HasStayed env mix performs.caller performs.ghost (words_at did.index) (words_at did.index) changed.table
+        → In changed.table (in_force g (words_at did.index)) ⊎ (word_at g (words_at did.index) (Section c) % 2 ≡ 1) → ⊥
+    unled job index performs now own fits changed has yet =
+        let words = performs.words in
+        let G = performs.ghost in
+        let used =
+        entry_used env mix words G performs.whole changed.table index has.at
+        (subst (λ ws. IsEntryOfTable g ws (shape_of g ws changed.table) index) (sym now) changed.entry) in
+        let next = job_after mix env job did.old in
+        elim (entered_by_move env mix performs.caller words G did (held_of job) (held_next next) performs.whole performs.all performs.found
+        index changed.index_in used.0 changed.there changed.other fits performs.step.move performs.step.ready performs.step.made.whole
+        (does_now job performs)) [
+          | inl enters ↦
+              let old : did.old ≡ word_at g words (PageWord index) = performs.found ∙ ap (old_of words) enters.does.entering in
+              let unset : page_of g.pages (word_at g (words_at did.index) (PageWord index)) ≡ page_of g.pages 0 =
+              ap (λ ws. page_of g.pages (word_at g ws (PageWord index))) (sym now) ∙ ap (page_of g.pages) (sym old ∙ enters.does.found) in
+              let both : ◌≡◌ {A = Option ℕ} None (Some changed.page) = sym unset ∙ changed.leads in
+              cc
+          | inr clears ↦ elim yet [
+            | inl stands ↦
+                cleared_apart env mix words G performs.whole performs.caller changed.table index clears.page has.at used.1 clears.can
+                (subst (λ ws. In changed.table (in_force g ws)) (sym now) stands)
+            | inr odd ↦
+                clears.can.going.over performs.caller
+                (subst (IsSince (G.from performs.caller)) (sym used.1)
+                (has.since (subst (λ k. word_at g (words_at did.index) (Section k) % 2 ≡ 1) (sym own) odd)))
+          ]
+        ]
 
     -- a call whose job has a slot behind the operation makes tables
     makes_then : (job : Job) (slot : ℕ) (next : Job × Next Ending) → call_of next.0 ≡ call_of job → (held_next next).slot ≡ Some slot
@@ -315,6 +387,22 @@ module _ (M : Type 0) (mix : ℕ → ℕ → ℕ → ℕ) (env : Env) (events : 
               (leads_to_current env mix words G whole τ on (let left = can.left_behind in omega (arith, left)));
         })
 
+    -- one that gives back retired tables changes no word that says something of a table
+    returning-spares : (job : Job) → IsReturning job → Performs mix env job did → (slot : ℕ) → ChangesTable g slot did → ⊥
+    returning-spares job (by_returning returns) performs slot changed =
+        returns-spare g did slot changed returns.geometry returns.at performs.planned
+
+    returning_works : (job : Job) → IsReturning job → call_of job ≡ Work
+    returning_works job (by_returning returns) = refl
+
+    -- where it frees a slot, that is the one of the table that it gives back
+    returned : (job : Job) → IsReturning job → (slot : ℕ) (performs : Performs mix env job did) → JobSaw env c words_at mix job steps
+        → HasTakenWork job steps → ChangesState g slot did → did.op ≡ Store (place_of g (Slot slot StateWord)) 0
+        → ReturnsRetired g slot steps did
+    returned job (by_returning returns) slot performs saw taken changed gives =
+        returns-free env mix performs.caller performs.words performs.ghost performs.whole steps did performs.found slot changed.slot_in gives
+        (taken refl) returns.geometry returns.at performs.planned saw.of_slot performs.knows.knowing.means.making
+
     stated : (job : Job) (slot : ℕ) (performs : Performs mix env job did) → performs.words ≡ words_at did.index
         → JobSaw env c words_at mix job steps → HasTakenWork job steps → ChangesState g slot did
         → StateHere env mix performs.caller (mem env mix performs.words) performs.ghost did (held_of job) (held_next (job_after mix env job did.old)) slot
@@ -322,31 +410,41 @@ module _ (M : Type 0) (mix : ℕ → ℕ → ℕ → ℕ) (env : Env) (events : 
     stated job slot performs now saw taken changed (inl takes) =
         inl (makes_then job slot (job_after mix env job did.old) (same_call mix env job did.old) takes.has, takes.takes)
     stated job slot performs now saw taken changed (inr (inl gives)) =
-        let is = own_slot env c words_at mix performs.caller (mem env mix performs.words) performs.ghost steps slot job performs.knows saw gives.has in
-        inr (inl (own_table slot performs.caller performs.words performs.ghost performs.whole now is.held is.taken, gives.gives))
+        elim (own_slot env c words_at mix performs.caller (mem env mix performs.words) performs.ghost steps slot job performs.knows saw gives.has) [
+          | inl is ↦ inr (inl (own_table slot performs.caller performs.words performs.ghost performs.whole now is.held is.taken, gives.gives))
+          | inr returning ↦ inr (inr (inr (returning_works job returning, returned job returning slot performs saw taken changed gives.gives)))
+        ]
     stated job slot performs now saw taken changed (inr (inr here)) =
-        let gone =
-        gone_on env c words_at mix performs.caller performs.words performs.ghost performs.whole did performs.found slot changed.slot_in here.can
-        here.stores changed.other steps job performs.planned here.moves performs.knows saw in
-        inr (inr (
+        let there = mem env mix performs.words in
+        let now_retires =
+        retires_now env mix performs.caller there performs.ghost did slot here.can here.stores job performs.planned here.moves performs.knows in
+        let gone = gone_on env mix performs.caller there performs.ghost did slot here.can here.stores c words_at steps job now_retires saw in
+        inr (inr (inl (
           moving_works job here.moves,
           retires performs.words performs.ghost performs.caller slot performs.whole now here.can here.stores
               (taken (moving_has job here.moves)) gone,
-        ))
+        )))
+
+    -- a section word is kept by a resizing, which has just loaded it
+    kept_word : (job : Job) (slot caller : ℕ) (performs : Performs mix env job did) → JobSaw env c words_at mix job steps
+        → KeepsHere env mix performs.caller (mem env mix performs.words) performs.ghost did (held_of job)
+        (held_next (job_after mix env job did.old)) slot
+        → HasWorkLock g steps → ChangesKept g slot caller did → (call_of job ≡ Work) × KeepsWordOf g slot caller steps did
+    kept_word job slot caller performs saw here lock changed =
+        by_now job (keeps_now env mix performs.caller (mem env mix performs.words) performs.ghost performs.whole did slot here.caller here.word
+        here.table here.caller_in here.retiring here.stores job performs.planned here.moves performs.knows) performs saw
+      where
+        by_now : (job : Job) → KeepsNow job → Performs mix env job did → JobSaw env c words_at mix job steps
+            → (call_of job ≡ Work) × KeepsWordOf g slot caller steps did
+        by_now job (by_keeping keep again) performs saw =
+            (refl, keeps-word g keep performs.within steps did performs.planned saw.1 slot caller changed lock)
 
     -- a call whose job has the work lock behind the operation is a resizing
     works_then : (job : Job) (next : Job × Next Ending) → call_of next.0 ≡ call_of job → (held_next next).worker ≡ true → call_of job ≡ Work
     works_then job (after, Go) same has = sym same ∙ worker_works after has
     works_then job (after, Done ending) same has = absurd (cc)
 
-    -- what the operation does to what the call has
-    does_now : (job : Job) (performs : Performs mix env job did)
-        → Does env mix performs.step.move did.op did.old (held_of job) (held_next (job_after mix env job did.old))
-    does_now job performs =
-        subst (λ old. Does env mix performs.step.move did.op old (held_of job) (held_next (job_after mix env job did.old)))
-        (sym performs.found) performs.step.does
-
-    fits_now : (job : Job) (performs : Performs mix env job did) → performs.words ≡ words_at did.index → FitBefore did
+    pub fits_now : (job : Job) (performs : Performs mix env job did) → performs.words ≡ words_at did.index → FitBefore did
     fits_now job performs now = fit_before job did performs (subst (AllByRecursion IsWord) (sym now) (words_fit_at admitted did.index))
 
     work_lock : (job : Job) (performs : Performs mix env job did) → performs.words ≡ words_at did.index → ChangesWorkLock g did
@@ -382,46 +480,60 @@ module _ (M : Type 0) (mix : ℕ → ℕ → ℕ → ℕ) (env : Env) (events : 
               }
         ]
 
+    -- a page that it took is its own still, where the operation neither gives it back nor enters it
+    page_kept : (job : Job) (performs : Performs mix env job did) (page : ℕ) (G : Ghost)
+        → Whole env mix (mem env mix (applied performs.words did.op)) G → G.page page ≡ PageHeld performs.caller
+        → In page (held_of job).pages → call_of job ≡ Work → (page < g.pages) × HasTaken g page steps
+        → HasTaken g page (steps ++ did ∷ [])
+    page_kept job performs page G then held i is (low, has) = record {
+      before = has.before;
+      at = has.at;
+      behind = has.behind ++ did ∷ [];
+      split = ap (λ s. s ++ did ∷ []) has.split ∙ append_assoc has.before (has.at ∷ has.behind) (did ∷ []);
+      takes = has.takes;
+      kept =
+          AllByRecursion-push (λ other. ¬ GivesPage g page (performed_of other)) has.behind did has.kept
+          (unless_given env mix performs.caller performs.words performs.ghost did page G then performs.all performs.found low held);
+      unentered =
+          AllByRecursion-push (λ other. (entry : ℕ) → ¬ PutsPage g entry page other) has.behind did has.unentered
+          (λ entry puts.
+          enters-binds env entry page job is
+          (enters_now env mix performs.caller (mem env mix performs.words) performs.ghost did entry page puts.exchanges job
+          performs.within performs.planned i));
+    }
+
     -- so it has behind the operation, by which no page of its own is given back or entered
     pages_then : (job : Job) (performs : Performs mix env job did) (next : Job × Next Ending) (G : Ghost)
         → Whole env mix (mem env mix (applied performs.words did.op)) G
         → JobNext env mix performs.caller next (mem env mix (applied performs.words did.op)) G
-        → ((page : ℕ) → G.page page ≡ PageHeld performs.caller → HadOrTakes env mix performs.caller performs.words performs.ghost did page)
-        → call_of next.0 ≡ call_of job → HasTakenPages job steps → IfGoes next (λ after. HasTakenPages after (steps ++ did ∷ []))
-    pages_then job performs (after, Done ending) G then knows by same paged = tt
-    pages_then job performs (after, Go) G then knows by same paged = λ is page i.
+        → ((page : ℕ) → G.page page ≡ PageHeld performs.caller
+        → HadOrTakes env mix performs.caller performs.words performs.ghost did page (held_of job) (held_next next) G)
+        → (IsReturning job → (page : ℕ) → In page (held_next next).pages → IsReturning next.0) → call_of next.0 ≡ call_of job
+        → HasTakenPages job steps → IfGoes next (λ after. HasTakenPages after (steps ++ did ∷ []))
+    pages_then job performs (after, Done ending) G then knows by returns same paged = tt
+    pages_then job performs (after, Go) G then knows by returns same paged = λ is page i.
         let held = pages-mine env mix performs.caller (mem env mix (applied performs.words did.op)) G after is knows page i in
         elim (by page held) [
-          | inr taken ↦ (taken.0, record { before = steps; at = did; behind = []; split = refl; takes = taken.1; kept = tt; unentered = tt })
+          | inr (inl taken) ↦
+              inl (taken.0, record { before = steps; at = did; behind = []; split = refl; takes = taken.1; kept = tt; unentered = tt })
+          | inr (inr out) ↦ inr (elim out.either [
+            | inl none ↦
+                slotless_returns env mix performs.caller (mem env mix (applied performs.words did.op)) G after is page i none
+            | inr back ↦
+                back_returns env mix performs.caller (mem env mix (applied performs.words did.op)) G after is knows back.0 back.1 back.2
+          ])
           | inl had ↦
               let i_before = performs.knows.knowing.only.pages_in page had in
-              let was = paged (sym same ∙ is) page i_before in
-              let has = was.1 in (
-                was.0,
-                record {
-                  before = has.before;
-                  at = has.at;
-                  behind = has.behind ++ did ∷ [];
-                  split = ap (λ s. s ++ did ∷ []) has.split ∙ append_assoc has.before (has.at ∷ has.behind) (did ∷ []);
-                  takes = has.takes;
-                  kept =
-                      AllByRecursion-push (λ other. ¬ GivesPage g page (performed_of other)) has.behind did has.kept
-                      (unless_given env mix performs.caller performs.words performs.ghost did page G then performs.all performs.found was.0
-                      held);
-                  unentered =
-                      AllByRecursion-push (λ other. (entry : ℕ) → ¬ PutsPage g entry page other) has.behind did has.unentered
-                      (λ entry puts.
-                      enters-binds env entry page job (sym same ∙ is)
-                      (enters_now env mix performs.caller (mem env mix performs.words) performs.ghost did entry page puts.exchanges job
-                      performs.within performs.planned i_before));
-                },
-              )
+              elim (paged (sym same ∙ is) page i_before) [
+                | inr returning ↦ inr (returns returning page i)
+                | inl was ↦ inl (was.0, page_kept job performs page G then held i_before (sym same ∙ is) was)
+              ]
         ]
 
-    changes : (job : Job) (performs : Performs mix env job did) → StandsIn mix env words_at job did performs
+    changes : (job : Job) (performs : Performs mix env job did) → performs.caller ≡ c → StandsIn mix env words_at job steps did performs
         → JobSaw env c words_at mix job steps → refusals.Going M mix env events c job steps → HasTakenWork job steps
         → HasTakenPages job steps → ChangesSeen (call_of job) steps did
-    changes job performs stands saw going taken paged =
+    changes job performs own stands saw going taken paged =
         let now = stands.now in
         let next = job_after mix env job did.old in
         let step = performs.step in
@@ -432,8 +544,10 @@ module _ (M : Type 0) (mix : ℕ → ℕ → ℕ → ℕ) (env : Env) (events : 
           tables = λ slot changed. elim (by_move env mix performs.caller there performs.ghost did (held_of job) (held_next next) slot fits
               changed step.move step.ready does) [
                 | inl has ↦
-                    let is = own_slot env c words_at mix performs.caller there performs.ghost steps slot job performs.knows saw has in
-                    inl (own_table slot performs.caller performs.words performs.ghost performs.whole now is.held is.taken)
+                    elim (own_slot env c words_at mix performs.caller there performs.ghost steps slot job performs.knows saw has) [
+                      | inl is ↦ inl (own_table slot performs.caller performs.words performs.ghost performs.whole now is.held is.taken)
+                      | inr returning ↦ absurd (returning-spares job returning performs slot changed)
+                    ]
                 | inr here ↦
                     inr (attaching job slot here.made_slot
                     (attaches_now env performs.caller did here.made_slot slot here.attaches job performs.planned here.has)
@@ -448,13 +562,24 @@ module _ (M : Type 0) (mix : ℕ → ℕ → ℕ → ℕ) (env : Env) (events : 
               (state_by_move env mix performs.caller there performs.ghost did (held_of job) (held_next next) slot fits changed step.move
               step.ready does);
           entries = λ entry changed had.
-              let has = stands.stayed did.index changed.table (omega arith) had in
+              let has = stands.stayed did.index changed.table (inl refl) (subst (λ k. HadTable g words_at k did.index changed.table) (sym own) had) in
               let way = subst (λ ws. IsWaysEnd g ws changed.table entry) (sym now) changed.way in
-              entered job entry performs now saw going changed.entry_in
-              (entered_by_move env mix performs.caller performs.words performs.ghost did (held_of job) (held_next next) performs.whole
+              elim (entered_by_move env mix performs.caller performs.words performs.ghost did (held_of job) (held_next next) performs.whole
               performs.all performs.found entry changed.entry_in
               (missing_is_entry env mix performs.words performs.ghost performs.whole entry changed.table way has.at) changed.there
-              changed.other step.move step.ready step.made.whole does);
+              changed.other fits step.move step.ready step.made.whole does) [
+                | inl enters ↦ entered job entry performs now saw going changed.entry_in enters
+                | inr clears ↦ absurd (uncleared job entry changed.table performs way clears)
+              ];
+          kept = λ slot caller changed.
+              let here = kept_by_move env mix performs.caller there performs.ghost did (held_of job) (held_next next) slot caller fits changed
+              step.move step.ready does in
+              kept_word job slot caller performs saw here (taken (moving_has job here.moves)) changed;
+          leading = λ index changed had yet.
+              unled job index performs now own fits changed
+              (stands.stayed did.index changed.table (inl refl) (subst (λ k. HadTable g words_at k did.index changed.table) (sym own) had)) yet;
+          few = subst (λ k. k < 16) own performs.few;
+          unturned = subst (λ k. UnturnedTo g words_at k steps did.index) own stands.unturned;
           work = λ changed. elim (work_lock job performs now changed) [
             | inl here ↦ (works_then job next (same_call mix env job did.old) here.has, inl here.takes)
             | inr here ↦ (worker_works job here.had, inr (taken here.had, here.gives))
@@ -473,21 +598,21 @@ module _ (M : Type 0) (mix : ℕ → ℕ → ℕ → ℕ) (env : Env) (events : 
         (leads, going, subst (λ call. EachBehind (ChangesSeen call) [] (steps ++ did ∷ [])) (sym same) each, taken, paged)
     by_next job (after, Done ending) same each leads going taken paged = (leads, each)
 
-    pub goes : (job : Job) (performs : Performs mix env job did) → performs.caller ≡ c → StandsIn mix env words_at job did performs
+    pub goes : (job : Job) (performs : Performs mix env job did) → performs.caller ≡ c → StandsIn mix env words_at job steps did performs
         → Now job steps
         → LeadsOn M mix env Now Ended job (steps ++ did ∷ []) (job_after mix env job did.old)
     goes job performs own stands (saw, going, each, taken, paged) =
         by_next job (job_after mix env job did.old) (same_call mix env job did.old)
-        (each-push (ChangesSeen (call_of job)) [] steps did each (changes job performs stands saw going taken paged))
+        (each-push (ChangesSeen (call_of job)) [] steps did each (changes job performs own stands saw going taken paged))
         (job-leads M mix env events c job steps did performs own stands saw)
-        (refusals.goes M mix env events c job steps did performs own stands.now (saw-came env c words_at mix job steps saw) going)
+        (refusals.goes M mix env events c job steps did performs own stands.now stands.giving (saw-came env c words_at mix job steps saw) going)
         (worked job performs stands.now taken)
         (pages_then job performs (job_after mix env job did.old) (ghost_after env mix performs.caller performs.step.move performs.ghost)
         performs.step.made.whole performs.step.knows
         (λ page held.
         held_by_move env mix performs.caller performs.words performs.ghost did page performs.step.move (held_of job)
         (held_next (job_after mix env job did.old)) performs.step.ready (does_now job performs) held)
-        (same_call mix env job did.old) paged)
+        (λ returning page i. still_returning mix env job did.old page returning i) (same_call mix env job did.old) paged)
 
   -- a call has no work lock and no pages at its beginning
   pub begins : (call : Call) (job : Job) → IsFirstJob env call job → HasTakenWork job [] × HasTakenPages job []

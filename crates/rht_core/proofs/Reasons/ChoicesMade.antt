@@ -1,6 +1,6 @@
 -- What a resizing has seen up to the choice of what is due, and what it keeps behind that: what it chose, by
 -- which tables, and that something is so of its operations since.
-use Rattle.std.proofs.Common.{◌≡◌, ℕ, ◌≤◌, ◌^◌, true, List, [], ◌∷◌, ◌++◌, append_assoc, refl, sym, ap, ◌∙◌, subst}
+use Rattle.std.proofs.Common.{◌≡◌, ℕ, ◌≤◌, ◌^◌, true, List, [], ◌∷◌, ◌++◌, map, append_assoc, refl, sym, ap, ◌∙◌, subst}
 use Rattle.std.specs.Prelude.{Option, Some, None}
 use Rattle.rht_words.specs.declared.env.Env.{Env}
 use Rattle.rht_words.specs.declared.geometry.Geometry.{Geometry}
@@ -13,10 +13,15 @@ use Rattle.rht_move.specs.declared.last_table.LastTableAt.{LastTableAt}
 use Rattle.rht_move.specs.declared.last_table.LastTableAt.TheVariants as seeks
 use Rattle.rht_move.specs.declared.work.choice.Choice.{Choice}
 use Rattle.rht_move.specs.LastTable.{next_or_shape}
-use Rattle.rht_core.specs.Traces.{Did}
+use Rattle.rht_reclaim.specs.ReturnTables.{ReturnTablesModel}
+use Rattle.rht_reclaim.specs.ReturnLaws.{IsReturningStep}
+use Rattle.std.specs.List.{AllByRecursion}
+use Rattle.rht_core.specs.Traces.{Did, performed_of}
 use Rattle.rht_core.specs.ResizeCauses.{Loaded}
 use Rattle.rht_core.specs.Seen.{TurnsSection}
 use Rattle.rht_core.specs.WorkCauses.{TakesWorkLock, ReadsFuture, AreFuturesRead, HasChosen}
+use Rattle.rht_core.proofs.Reasons.ReturnsSeen.{IsPartOf, HasSeen}
+use Rattle.rht_core.proofs.Reasons.ReturnsSoFar.{SlotSoFar}
 
 module _ (g : Geometry) where
   -- the futures that were loaded lead from one table to another
@@ -62,13 +67,15 @@ pub record Chosen : Type 0 where
 module _ (env : Env) (c : ℕ) where
   -- ---- up to the choice
 
-  -- it took the work lock, opened its section and loaded the current table, and these were its operations behind
+  -- It took the work lock, gave retired tables back, opened its section and loaded the current table, and these were its operations behind.
   pub record Began (root : ℕ) (rest steps : List Did) : Type 0 where
     pub lock : Did
+    pub sooner : List Did
     pub opening : Did
     pub current : Did
-    pub split : steps ≡ lock ∷ opening ∷ current ∷ rest
+    pub split : steps ≡ (lock ∷ sooner) ++ opening ∷ current ∷ rest
     pub took : TakesWorkLock env.geometry lock
+    pub returned : HasSeen env.geometry (map performed_of sooner)
     pub opens : TurnsSection env.geometry c opening
     pub current_read : Loaded env.geometry CurrentTable current.old current
     pub root_is : table_of current.old ≡ root
@@ -77,26 +84,43 @@ module _ (env : Env) (c : ℕ) where
       → Began root (rest ++ did ∷ []) (steps ++ did ∷ [])
   Began-push root rest steps did began = record {
     lock = began.lock;
+    sooner = began.sooner;
     opening = began.opening;
     current = began.current;
-    split = ap (λ s. s ++ did ∷ []) began.split;
+    split = ap (λ s. s ++ did ∷ []) began.split
+        ∙ append_assoc (began.lock ∷ began.sooner) (began.opening ∷ began.current ∷ rest) (did ∷ []);
     took = began.took;
+    returned = began.returned;
     opens = began.opens;
     current_read = began.current_read;
     root_is = began.root_is;
   }
 
-  pub record HasLock (steps : List Did) : Type 0 where
+  -- it took the work lock, and is giving retired tables back
+  pub record Returns (returns : ReturnTablesModel) (steps : List Did) : Type 0 where
     pub lock : Did
-    pub only : steps ≡ lock ∷ []
+    pub sooner : List Did
+    pub split : steps ≡ lock ∷ sooner
     pub took : TakesWorkLock env.geometry lock
+    pub so_far : IsPartOf env.geometry (map performed_of sooner) returns
+    pub of_slot : SlotSoFar env.geometry returns.at steps
+
+  -- or has given them back
+  pub record HasReturned (steps : List Did) : Type 0 where
+    pub lock : Did
+    pub sooner : List Did
+    pub split : steps ≡ lock ∷ sooner
+    pub took : TakesWorkLock env.geometry lock
+    pub returned : HasSeen env.geometry (map performed_of sooner)
 
   -- and then opened its section
   pub record HasOpened (steps : List Did) : Type 0 where
     pub lock : Did
+    pub sooner : List Did
     pub opening : Did
-    pub only : steps ≡ lock ∷ opening ∷ []
+    pub split : steps ≡ (lock ∷ sooner) ++ opening ∷ []
     pub took : TakesWorkLock env.geometry lock
+    pub returned : HasSeen env.geometry (map performed_of sooner)
     pub opens : TurnsSection env.geometry c opening
 
   -- and looks for the last table, or has found it
@@ -119,9 +143,14 @@ module _ (env : Env) (c : ℕ) where
   abbrev pub chosen_by : (choice : Choice) (steps : List Did) → HasChosen env c choice steps → Chosen
   chosen_by choice steps chose = record { root = chose.root; last = chose.last; shape = chose.shape.old }
 
+  -- these operations are such of a giving back of tables
+  abbrev pub GaveBack : List Did → Type 0
+  GaveBack sooner = AllByRecursion (IsReturningStep env.geometry) (map performed_of sooner)
+
   -- it has chosen this, and that is so of its operations since
   pub record Since (choice : Choice) (So : Chosen → List Did → Type 0) (steps : List Did) : Type 0 where
     pub chose : HasChosen env c choice steps
+    pub gave : GaveBack chose.sooner
     pub so : So (chosen_by choice steps chose) chose.behind
 
   -- or something
@@ -137,6 +166,7 @@ module _ (env : Env) (c : ℕ) where
     root = chose.root;
     last = chose.last;
     lock = chose.lock;
+    sooner = chose.sooner;
     opening = chose.opening;
     current = chose.current;
     futures = chose.futures;
@@ -144,9 +174,10 @@ module _ (env : Env) (c : ℕ) where
     count = chose.count;
     behind = chose.behind ++ did ∷ [];
     split = ap (λ s. s ++ did ∷ []) chose.split
-        ∙ append_assoc (chose.lock ∷ chose.opening ∷ chose.current ∷ chose.futures) (chose.shape ∷ chose.count ∷ chose.behind)
-        (did ∷ []);
+        ∙ append_assoc ((chose.lock ∷ chose.sooner) ++ (chose.opening ∷ chose.current ∷ chose.futures))
+        (chose.shape ∷ chose.count ∷ chose.behind) (did ∷ []);
     took = chose.took;
+    returned = chose.returned;
     opens = chose.opens;
     current_read = chose.current_read;
     root_is = chose.root_is;
@@ -164,6 +195,7 @@ module _ (env : Env) (c : ℕ) where
   unfolding HasChosen-push
   Since-push choice steps did since further = record {
     chose = HasChosen-push choice steps did since.chose;
+    gave = since.gave;
     so = further (chosen_by choice steps since.chose) since.chose.behind since.so;
   }
 

@@ -30,7 +30,7 @@ use Rattle.rht_bind.specs.declared.bind.BindAt.{BindAt}
 use Rattle.rht_core.specs.Traces.{Did}
 use Rattle.rht_core.specs.Seen.{IsNoShapeLoad}
 use Rattle.rht_core.proofs.Tracing.TracedJobs.{Performs}
-use Rattle.rht_core.proofs.Reasons.TablesWalked.{no_load, other_load}
+use Rattle.rht_core.proofs.Reasons.TablesWalked.{no_load, other_load, no_turn}
 use Rattle.rht_core.proofs.Reasons.RefusedBinds.{Behind, Behind-push, SawWhy, SawRoot, SawOther, SawRefusal, SawToMake, refusal-why, FollowedSeen, begins-making, other-saw, no_room-saw, busy-saw, no_table-saw, followed-saw, to_attach-saw, SawToAttach, attach-taken}
 use Rattle.rht_ghost.proofs.Theory.Steps.{mem, by_test}
 use Rattle.rht_core.proofs.Reasons.BindsSeen.{SawAt, SawForReply}
@@ -45,7 +45,7 @@ module _ (env : Env) (mix : ℕ → ℕ → ℕ → ℕ) (port owner : ℕ) (onc
       let found : did.old ≡ mem env mix does.words (Slot growing.table FutureWord) =
       does.found ∙ ap (old_of does.words) does.planned in
       let few = future_few env mix does.words does.ghost growing.table does.whole
-      does.knows.knowing.means.table in
+      does.knows.knowing.means.table.at in
       omega (arith, found, few)
 
   pub again_few : (growing : Growing) (refusal : Refusal) (did : Did)
@@ -54,12 +54,12 @@ module _ (env : Env) (mix : ℕ → ℕ → ℕ → ℕ) (port owner : ℕ) (onc
       let found : did.old ≡ mem env mix does.words (Slot growing.table FutureWord) =
       does.found ∙ ap (old_of does.words) does.planned in
       let few = future_few env mix does.words does.ghost growing.table does.whole
-      does.knows.knowing.means.table in
+      does.knows.knowing.means.table.at in
       omega (arith, found, few)
 
-module _ (env : Env) (words_at : ℕ → List ℕ) (mix : ℕ → ℕ → ℕ → ℕ) (port : ℕ) (once : Bool) where
+module _ (env : Env) (words_at : ℕ → List ℕ) (mix : ℕ → ℕ → ℕ → ℕ) (port c : ℕ) (once : Bool) where
   abbrev Sees : BindAt → List Did → Type 0
-  Sees = SawAt env words_at mix port
+  Sees = SawAt env words_at mix port c
 
   abbrev SeesFor : Option Reply → List Did → Type 0
   SeesFor = SawForReply env words_at mix port
@@ -98,7 +98,7 @@ module _ (env : Env) (words_at : ℕ → List ℕ) (mix : ℕ → ℕ → ℕ �
       (λ above.
       Behind-push env.geometry growing.table growing.shape Saw
       (SawToMake env words_at mix port growing (2 * size) (exponent_made (2 * size)) true (makes.Slot 0, Go))
-      steps did none
+      steps did none (no_turn env.geometry did _ is (λ place value adds. cc))
       (λ behind so.
       begins-making env words_at mix port growing root (2 * size) behind did is
       (sym (ap (λ b. cond b (2 * size) size) above)) (inl above) so)
@@ -108,6 +108,7 @@ module _ (env : Env) (words_at : ℕ → List ℕ) (mix : ℕ → ℕ → ℕ �
       (λ t.
       Behind-push env.geometry growing.table growing.shape Saw
       (SawToMake env words_at mix port growing size (exponent_made size) true (makes.Slot 0, Go)) steps did none
+      (no_turn env.geometry did _ is (λ place value adds. cc))
       (λ behind so.
       begins-making env words_at mix port growing root size behind did is
       (sym (ap (λ b. cond b (2 * size) size) below))
@@ -116,6 +117,7 @@ module _ (env : Env) (words_at : ℕ → List ℕ) (mix : ℕ → ℕ → ℕ �
       (λ other.
       Behind-push env.geometry growing.table growing.shape (SawRoot env words_at mix port growing root)
       (SawOther env words_at mix port growing.table root growing.why growing.shape) steps did none
+      (no_turn env.geometry did _ is (λ place value adds. cc))
       (λ behind so. other-saw env words_at mix port growing root behind did is (eqb-false root growing.table other)
       below so) saw))
 
@@ -127,10 +129,12 @@ module _ (env : Env) (words_at : ℕ → List ℕ) (mix : ℕ → ℕ → ℕ �
   made-saw growing size make (state, Go) all saw = saw
   made-saw growing size make (state, Done None) all saw = record {
     walked = saw.walked;
+    quiet = saw.quiet;
     saw = no_room-saw env words_at mix port growing size make.exponent make.nested state saw.walked.behind saw.saw;
   }
   made-saw growing size make (state, Done (Some table)) all saw = record {
     walked = saw.walked;
+    quiet = saw.quiet;
     saw = to_attach-saw env words_at mix port growing size make.exponent make.nested state table.0 table.1 saw.walked.behind saw.saw;
   }
 
@@ -158,6 +162,7 @@ module _ (env : Env) (words_at : ℕ → List ℕ) (mix : ℕ → ℕ → ℕ �
       (inr (record { table_in = within; slot_in = named.0; tells = inl is; found = named.1 }))
       (record {
         walked = saw.walked;
+        quiet = saw.quiet;
         saw = refusal-why env words_at mix port growing refusal saw.walked.behind saw.saw;
       })))
 
@@ -170,7 +175,7 @@ module _ (env : Env) (words_at : ℕ → List ℕ) (mix : ℕ → ℕ → ℕ �
   attach-saw growing slot shape steps did within slot_in is few made =
       let all = steps ++ did ∷ [] in
       let saw : Behind env.geometry growing.table growing.shape (SawWhy env words_at mix port growing.table growing.why growing.shape) steps =
-      record { walked = made.walked; saw = made.saw.why } in
+      record { walked = made.walked; quiet = made.quiet; saw = made.saw.why } in
       let none = no_load env.geometry did _ is (λ place load. cc) in
       let won = behind_attempt (has_attached growing.attempt) (ended_attempt once slot) in
       let other = table_of (did.old - 1) in

@@ -16,7 +16,7 @@ use Rattle.rht_words.specs.declared.machine.Next.TheVariants.{Go, Done}
 use Rattle.rht_words.specs.Links.{slot_of, node_of, head_of, unlocked}
 use Rattle.rht_words.specs.Machines.{GoesOrEnds}
 use Rattle.rht_words.specs.Operations.{old_of, applied}
-use Rattle.rht_words.specs.Places.{WorkLock, Slot, FutureWord, StateWord}
+use Rattle.rht_words.specs.Places.{WorkLock, Slot, FutureWord}
 use Rattle.rht_words.specs.Shapes.{unpacked, size_of}
 use Rattle.rht_policy.specs.Sizes.{shrunk_size}
 use Rattle.rht_policy.specs.Thresholds.{is_above_75}
@@ -49,18 +49,20 @@ use Rattle.rht_move.specs.declared.work.WorkAt.TheVariants as at
 use Rattle.rht_move.specs.Choice.{chosen, choice_of, is_sparse}
 use Rattle.rht_move.specs.LastTable.{LastTableModel, last_table_plan_at, last_table_after, next_or_shape}
 use Rattle.rht_move.specs.LastEntry.{LastEntryModel, last_entry_after}
-use Rattle.rht_move.specs.Work.{plan_at, after_at, lock_seen, letting_go, last_seen, begun, made, not_made, attached, future_or_idle, bucket_of_root, next_bucket, entry_passed, locked, unlocking, entry_table_seen, with_word, entry_or_empty, walked, second_locked, cut_off, unlocked_bucket, retiring, reply_of}
+use Rattle.rht_move.specs.Work.{plan_at, after_at, lock_seen, returning, returned, kept, letting_go, last_seen, begun, made, not_made, attached, future_or_idle, bucket_of_root, next_bucket, entry_passed, locked, unlocking, entry_table_seen, with_word, entry_or_empty, walked, second_locked, cut_off, unlocked_bucket, retiring, reply_of}
 use Rattle.rht_core.specs.Jobs.{works}
 use Rattle.rht_core.specs.Traces.{Did}
 use Rattle.rht_core.specs.Seen.{TurnsSection}
 use Rattle.rht_ghost.proofs.Theory.Steps.{mem, by_test}
-use Rattle.rht_ghost.proofs.Theory.Wholes.{IsAt, at-on}
+use Rattle.rht_ghost.proofs.Theory.Wholes.{IsAt}
 use Rattle.rht_core.proofs.Tracing.TracedJobs.{Performs}
 use Rattle.rht_core.proofs.Reasons.AttachedTables.{IsNoFutureExchange, lock-none, make-none}
 use Rattle.rht_core.proofs.Reasons.MadeSizes.{made_flat}
 use Rattle.rht_core.proofs.Reasons.LastTables.{AreSame, one_shape, IsLastIn, none_last, last_shape, last_in, last_stays, finds_none, attached_last}
 use Rattle.rht_core.proofs.Reasons.WorksSeen.{SawReplaced, SawAtWork}
-use Rattle.rht_core.proofs.Reasons.MovesSeen.{stored-saw, turned-saw, cut-none}
+use Rattle.rht_core.proofs.Reasons.MovesSeen.{stored-saw, turned-saw, keeping-saw, cut-none}
+use Rattle.rht_reclaim.specs.ReturnTables.{ReturnTablesModel, return_tables_after}
+use Rattle.rht_reclaim.specs.KeepSections.{KeepSectionsModel, keep_sections_plan_at, keep_sections_after}
 
 -- a choice that attaches no table is one where the last table is flat
 chosen-flat : (size smaller : ℕ) (full sparse alone nested : Bool) (choice : Choice)
@@ -105,6 +107,7 @@ module _ (env : Env) (c : ℕ) (words_at : ℕ → List ℕ) (mix : ℕ → ℕ 
 
   abbrev pub CalmAt : WorkAt → List Did → List ℕ → Type 0
   CalmAt at.WorkLock steps words = Unit {0}
+  CalmAt (at.Returning returns) steps words = Unit {0}
   CalmAt at.Opening steps words = Unit {0}
   CalmAt at.CurrentTable steps words = Unit {0}
   CalmAt (at.LastTable root seek) steps words = CalmSeek seek.at words
@@ -131,6 +134,7 @@ module _ (env : Env) (c : ℕ) (words_at : ℕ → List ℕ) (mix : ℕ → ℕ 
   CalmAt (at.Closing (endings.Retiring root again)) steps words = Unit {0}
   CalmAt (at.Closing (endings.LettingGo outcome)) steps words = CalmEnd outcome steps
   CalmAt (at.Retiring root again) steps words = Unit {0}
+  CalmAt (at.KeepingSections keep again) steps words = Unit {0}
   CalmAt (at.LettingGo outcome) steps words = CalmEnd outcome steps
 
   abbrev pub CalmNext : List Did → List ℕ → WorkAt × Next Reply → Type 0
@@ -139,10 +143,14 @@ module _ (env : Env) (c : ℕ) (words_at : ℕ → List ℕ) (mix : ℕ → ℕ 
   -- ---- between two states in the same words
 
   module _ (all : List Did) (now : List ℕ) where
-    calm-lock : (lock : ℕ) → CalmNext all now (lock_seen lock)
+    calm-lock : (lock : ℕ) → CalmNext all now (lock_seen env.geometry lock)
     calm-lock lock =
-        by_test (λ t. CalmNext all now (cond t (at.Opening, Go) (at.WorkLock, Done replies.Elsewhere))) (lock == 0)
+        by_test (λ t. CalmNext all now (cond t (returning env.geometry, Go) (at.WorkLock, Done replies.Elsewhere))) (lock == 0)
         (λ t. tt) (λ f again is. absurd (cc))
+
+    calm-returned : (returns : ReturnTablesModel) (next : Next (Unit {0})) → CalmAt (returned returns next) all now
+    calm-returned returns Go = tt
+    calm-returned returns (Done tt) = tt
 
     calm-begun : (root : ℕ) (last : Last) (count : ℕ) (choice : Choice)
         → choice_of env count last.shape (root == last.table) ≡ choice
@@ -252,6 +260,14 @@ module _ (env : Env) (c : ℕ) (words_at : ℕ → List ℕ) (mix : ℕ → ℕ 
     calm-retiring rehash None = tt
     calm-retiring rehash (Some next) = tt
 
+    -- once the section words are kept it has moved
+    calm-kept : (keep : KeepSectionsModel) (again : Bool) (next : Next (Unit {0})) → SawReplaced env c again all
+        → CalmAt (kept keep again next) all now
+    calm-kept keep again Go saw = tt
+    calm-kept keep again (Done tt) saw = λ answered is.
+        let same : again ≡ answered = cc in
+        subst (λ a. SawReplaced env c a all) same saw
+
   -- ---- an operation
 
   module _ (state : WorkAt) (did : Did) (does : Performs mix env (works state) did) (now : List ℕ)
@@ -283,7 +299,7 @@ module _ (env : Env) (c : ℕ) (words_at : ℕ → List ℕ) (mix : ℕ → ℕ 
   ends-here job did does slot at none =
       let G = does.ghost in
       let τ = at.table in
-      let last = none_last env mix (mem env mix does.words) G does.whole τ (at-on env mix does.whole.tables slot at) at.attached
+      let last = none_last env mix (mem env mix does.words) G does.whole τ at.on at.attached
       (ap (λ s. slot_of (mem env mix does.words (Slot s FutureWord))) at.slot_is ∙ none) in (
         (G.table τ).shape,
         last_in env mix does.words G does.whole slot (G.table τ).shape
@@ -370,6 +386,8 @@ module _ (env : Env) (c : ℕ) (words_at : ℕ → List ℕ) (mix : ℕ → ℕ 
       → AreSame env (applied does.words did.op) now → SawAtWork env c words_at state steps → CalmAt state steps does.words
       → CalmNext (steps ++ did ∷ []) now (after_at mix env state did.old)
   calm-work at.WorkLock steps did does own now still saw calm = calm-lock (steps ++ did ∷ []) now did.old
+  calm-work (at.Returning returns) steps did does own now still saw calm =
+      calm-returned (steps ++ did ∷ []) now (return_tables_after returns did.old).0 (return_tables_after returns did.old).1
   calm-work at.Opening steps did does own now still saw calm = tt
   calm-work at.CurrentTable steps did does own now still saw calm = tt
   calm-work (at.LastTable root seek) steps did does own now still saw calm =
@@ -431,10 +449,11 @@ module _ (env : Env) (c : ℕ) (words_at : ℕ → List ℕ) (mix : ℕ → ℕ 
   calm-work (at.Closing (endings.Retiring root again)) steps did does own now still saw calm = tt
   calm-work (at.Closing (endings.LettingGo outcome)) steps did does own now still saw calm = λ again is.
       turned-saw env c again steps did (subst (λ k. TurnsSection env.geometry k did) own does.planned) (calm again is)
-  calm-work (at.Retiring root again) steps did does own now still saw calm = λ answered is.
-      let same : again ≡ answered = cc in
-      subst (λ a. SawReplaced env c a (steps ++ did ∷ [])) same
-      (stored-saw env c again (Slot root StateWord) 2 steps did (does.within, tt) (λ e. cc) does.planned saw.0)
+  calm-work (at.Retiring root again) steps did does own now still saw calm = tt
+  calm-work (at.KeepingSections keep again) steps did does own now still saw calm =
+      calm-kept (steps ++ did ∷ []) now (keep_sections_after keep did.old).0 again (keep_sections_after keep did.old).1
+      (keeping-saw env c again keep.slot keep.at steps did does.within.slot_in does.within.at_in
+      (does.planned ∙ ap (λ (h : Geometry). keep_sections_plan_at h keep.slot keep.at) does.within.geometry_same) saw.0)
   calm-work (at.LettingGo outcome) steps did does own now still saw calm = λ again is.
       let moved : outcome ≡ outcomes.Moved again = moved-outcome outcome again is in
       stored-saw env c again WorkLock 0 steps did tt (λ e. cc) does.planned (calm again moved)

@@ -3,21 +3,20 @@
 -- for a further one.
 use Rattle.std.proofs.Common.{◌≡◌, ◌≢◌, ℕ, ◌<◌, ◌+◌, Bool, true, false, cond, nat_lt, List, [], ◌∷◌, ◌++◌, append_assoc, refl, sym, ap, ◌∙◌, subst, inl, inr, arith}
 use Rattle.std.specs.Prelude.{Option, Some, None}
-use Rattle.std.specs.List.{AllByRecursion, Any}
+use Rattle.std.specs.List.{AllByRecursion}
 use Rattle.std.proofs.lemmas.List.{append-nil}
-use Rattle.std.proofs.lemmas.List.Quantifiers.{Any-push}
 use Rattle.rht_words.specs.declared.op.Op.{Op}
-use Rattle.rht_words.specs.declared.op.Op.TheVariants.{Load, Store}
+use Rattle.rht_words.specs.declared.op.Op.TheVariants.{Load, Store, Add}
 use Rattle.rht_words.specs.declared.env.Env.{Env}
 use Rattle.rht_words.specs.declared.machine.Next.{Next}
 use Rattle.rht_words.specs.declared.machine.Next.TheVariants.{Go, Done}
 use Rattle.rht_words.specs.Links.{table_of, slot_of}
 use Rattle.rht_words.specs.Operations.{op_place, word_after}
-use Rattle.rht_words.specs.Places.{Address, CurrentTable, Slot, ShapeWord, FutureWord, IsAddress, place_of, word_at}
+use Rattle.rht_words.specs.Places.{Address, CurrentTable, Slot, ShapeWord, FutureWord, IsAddress, place_of, word_at, LoadedSection, Section}
 use Rattle.rht_words.specs.Shapes.{unpacked, size_of}
-use Rattle.rht_words.proofs.EachElement.{Any-append_left, AllByRecursion-push}
+use Rattle.rht_words.proofs.EachElement.{AllByRecursion-push, AllByRecursion-cut}
 use Rattle.rht_words.proofs.PlacesApart.{parts_in_order, place_of-apart}
-use Rattle.rht_chain.specs.Lock.{lock_new, LockModel}
+use Rattle.rht_chain.specs.Lock.{lock_new, LockModel, lock_plan_at}
 use Rattle.rht_chain.specs.Unlock.{unlock_plan, IsUnlockIn}
 use Rattle.rht_chain.specs.declared.unlock.Unlock.{Unlock}
 use Rattle.rht_nest.specs.Place.{PlaceModel, flat_place, nested_place}
@@ -34,9 +33,14 @@ use Rattle.rht_move.specs.declared.work.WorkAt.{WorkAt}
 use Rattle.rht_move.specs.declared.work.WorkAt.TheVariants as at
 use Rattle.rht_move.specs.LastTable.{next_or_shape}
 use Rattle.rht_move.specs.LastEntry.{LastEntryModel}
+use Rattle.rht_chain.specs.declared.lock.LockAt.{LockAt}
+use Rattle.rht_chain.specs.declared.lock.LockAt.TheVariants as locks
+use Rattle.rht_reclaim.specs.declared.keep_sections.KeepSectionsAt.{KeepSectionsAt}
+use Rattle.rht_reclaim.specs.declared.keep_sections.KeepSectionsAt.TheVariants as keeps
+use Rattle.rht_reclaim.specs.KeepSections.{IsKeepSectionsAtIn, keep_sections_plan_at}
 use Rattle.rht_move.specs.Work.{cut_plan, bucket_of_root, next_bucket, entry_passed, locked, unlocking, entry_or_empty, walked, second_locked, cut_off, unlocked_bucket, retiring}
 use Rattle.rht_core.specs.Traces.{Did}
-use Rattle.rht_core.specs.Seen.{LoadsWord, TurnsSection}
+use Rattle.rht_core.specs.Seen.{LoadsWord, TurnsSection, TurnsNoSection, AnyInSection}
 use Rattle.rht_core.specs.ResizeCauses.{Loaded}
 use Rattle.rht_core.specs.WorkCauses.{ReadsFuture, StoresOther}
 use Rattle.rht_ghost.proofs.Theory.Steps.{by_test}
@@ -44,8 +48,20 @@ use Rattle.rht_core.proofs.Tracing.LoneCalls.{Spares}
 use Rattle.rht_core.specs.Attached.{HasGoneOn}
 use Rattle.rht_core.proofs.Reasons.AttachedTables.{IsNoFutureExchange, IsNoAttach, no_attach}
 use Rattle.rht_core.proofs.Reasons.ChoicesMade.{Chosen, futures_next, chosen_by, HasChosen-push, SinceSome-push}
-use Rattle.rht_core.proofs.Reasons.WorksSeen.{IsPublished, HasMoved, FindsFurther, FindsNoneFurther, SawReplaced, RehashSaw, LooksAnew, AnewSaw, SaysMissing-push, IsTried-push, IsMoving-push, Moves-push, HasStopped, UnlockingSaw, SawAtWork}
+use Rattle.rht_core.proofs.Reasons.WorksSeen.{IsPublished, HasMoved, FindsFurther, FindsNoneFurther, SawReplaced, RehashSaw, LooksAnew, AnewSaw, SaysMissing-push, IsTried-push, IsMoving-push, Moves-push, HasStopped, UnlockingSaw, SawAtWork, IsPlain, StaysInside}
 use Rattle.rht_core.proofs.Reasons.TablesDue.{reads}
+use Rattle.rht_core.proofs.Reasons.QuietSteps.{AnyInSection-append}
+use Rattle.rht_core.proofs.Reasons.TablesWalked.{no_turn}
+
+-- the locking of a bucket adds nothing
+pub lock-no_add : (at_place : ℕ) (state : LockAt) (place value : ℕ) → lock_plan_at at_place state ≢ Add place value
+lock-no_add at_place locks.Word place value adds = cc
+lock-no_add at_place (locks.Exchange word) place value adds = cc
+
+-- nor does the cutting off of an entry
+pub cut-no_add : (env : Env) (at_place : ℕ) (before : Option ℕ) (place value : ℕ) → cut_plan env.geometry at_place before ≢ Add place value
+cut-no_add env at_place None place value adds = cc
+cut-no_add env at_place (Some before) place value adds = cc
 
 -- the cutting off of an entry exchanges no future
 pub cut-none : (env : Env) (place : ℕ) (before : Option ℕ)
@@ -54,13 +70,17 @@ cut-none env place None table old new l e = cc
 cut-none env place (Some before) table old new l e = cc
 
 module _ (env : Env) (c : ℕ) where
-  -- no operation of the move attaches a table
+  -- an operation that exchanges no future and adds nothing
+  pub plain : (op : Op) (did : Did) → did.op ≡ op → IsNoFutureExchange env.geometry op → ((place value : ℕ) → op ≢ Add place value)
+      → IsPlain env c did
+  plain op did is none adds = record { attaches = no_attach env.geometry did op is none; turns = no_turn env.geometry did op is adds }
+
+  -- no operation of the move attaches a table, or opens or closes a section
   pub goes : (rehash : Rehash) (op : Op) (steps : List Did) (did : Did) → did.op ≡ op
-      → IsNoFutureExchange env.geometry op
+      → IsNoFutureExchange env.geometry op → ((place value : ℕ) → op ≢ Add place value)
       → RehashSaw env c rehash steps → RehashSaw env c rehash (steps ++ did ∷ [])
-  goes rehash op steps did is none saw =
-      Moves-push env c rehash.root rehash.future rehash.again steps did
-      (no_attach env.geometry did op is none) saw
+  goes rehash op steps did is none adds saw =
+      Moves-push env c rehash.root rehash.future rehash.again steps did (plain op did is none adds) saw
 
   -- for an entry no future is loaded yet
   anew-saw : (rehash : Rehash) (all : List Did) → RehashSaw env c rehash all
@@ -71,6 +91,7 @@ module _ (env : Env) (c : ℕ) where
         choice = moves.choice;
         since = record {
           chose = since.chose;
+          gave = since.gave;
           so = (
             since.so,
             record {
@@ -98,7 +119,7 @@ module _ (env : Env) (c : ℕ) where
       → ReadsFuture env.geometry slot next did → AnewSaw env c rehash (seeks.Future slot) steps
       → AnewSaw env c rehash (next_or_shape slot next) (steps ++ did ∷ [])
   sought-saw rehash slot next steps did reads saw =
-      let quiet = no_attach env.geometry did _ reads.0.word.loads (λ table old new l e. cc) in
+      let quiet = plain _ did reads.0.word.loads (λ table old new l e. cc) (λ place value adds. cc) in
       SinceSome-push env c steps did saw (λ choice of behind anew. (
         IsMoving-push env c rehash.root rehash.future rehash.again choice of behind did quiet anew.0,
         anew-more of.root slot next behind did reads anew.1,
@@ -135,6 +156,7 @@ module _ (env : Env) (c : ℕ) where
             split = refl;
             stored = record { table_in = l; stores = is };
           };
+          inside = moving.inside;
           followed = moving.followed;
           another = moving.apart;
           leave = tt;
@@ -160,6 +182,7 @@ module _ (env : Env) (c : ℕ) where
               ∙ append_assoc published.before (published.at ∷ is.later) (did ∷ []);
           stored = published.stored;
         };
+        inside = is.inside;
         followed = is.followed;
         another = is.another;
         leave =
@@ -180,9 +203,10 @@ module _ (env : Env) (c : ℕ) where
     other = gone.other;
   }
 
-  -- what attaches nothing, loads nothing and leaves the current table finds nothing
-  left-saw : (again : Bool) (steps : List Did) (did : Did) → IsNoAttach env.geometry did → ((place : ℕ) → did.op ≢ Load place)
-      → op_place did.op ≢ place_of env.geometry CurrentTable → SawReplaced env c again steps
+  -- what attaches nothing, loads no future and leaves the current table finds nothing
+  left-saw : (again : Bool) (steps : List Did) (did : Did) → IsNoAttach env.geometry did
+      → ((table : ℕ) → did.op ≢ Load (place_of env.geometry (Slot table FutureWord)))
+      → Spares (place_of env.geometry CurrentTable) did → SawReplaced env c again steps
       → SawReplaced env c again (steps ++ did ∷ [])
   unfolding IsPublished-push
   left-saw again steps did quiet no_load apart replaced =
@@ -190,13 +214,13 @@ module _ (env : Env) (c : ℕ) where
       let published = saw.published in
       let table = published.table in
       record {
-        published = IsPublished-push of behind did (inl apart) published;
+        published = IsPublished-push of behind did apart published;
         looked =
-            Any-append_left (LoadsWord env.geometry (Slot table FutureWord)) published.later (did ∷ [])
+            AnyInSection-append env.geometry (LoadsWord env.geometry (Slot table FutureWord)) published.later (did ∷ [])
             saw.looked;
         says = elim saw.says [
           | inl further ↦
-              inl (further.0, Any-append_left (FindsFurther env c table) published.later (did ∷ []) further.1)
+              inl (further.0, AnyInSection-append env.geometry (FindsFurther env c table) published.later (did ∷ []) further.1)
           | inr says ↦ inr (
             SaysMissing-push env c again of.last choice behind did quiet says.0,
             AllByRecursion-push (FindsNoneFurther env c table) published.later did says.1
@@ -205,6 +229,14 @@ module _ (env : Env) (c : ℕ) where
         ];
       })
 
+  -- a load leaves the current table, and is of no future
+  loaded-saw : (again : Bool) (place : ℕ) (steps : List Did) (did : Did) → did.op ≡ Load place
+      → ((table : ℕ) → place ≢ place_of env.geometry (Slot table FutureWord)) → SawReplaced env c again steps
+      → SawReplaced env c again (steps ++ did ∷ [])
+  loaded-saw again place steps did is apart replaced =
+      left-saw again steps did (no_attach env.geometry did _ is (λ table old new l e. cc))
+      (λ table load. apart table (let both = sym is ∙ load in cc)) (inr (ap (word_after did.old) is)) replaced
+
   -- so does a store of another word
   pub stored-saw : (again : Bool) (address : Address) (value : ℕ) (steps : List Did) (did : Did)
       → IsAddress env.geometry address → address ≢ CurrentTable
@@ -212,14 +244,26 @@ module _ (env : Env) (c : ℕ) where
       → SawReplaced env c again (steps ++ did ∷ [])
   stored-saw again address value steps did there other is replaced =
       left-saw again steps did (no_attach env.geometry did _ is (λ table old new l e. cc)) (λ place load. let both = sym is ∙ load in cc)
-      (λ same. other (place_of-apart env.geometry address CurrentTable there tt (sym (ap op_place is) ∙ same))) replaced
+      (inl (λ same. other (place_of-apart env.geometry address CurrentTable there tt (sym (ap op_place is) ∙ same)))) replaced
 
   -- and what opens or closes the caller's section
   pub turned-saw : (again : Bool) (steps : List Did) (did : Did) → TurnsSection env.geometry c did → SawReplaced env c again steps
       → SawReplaced env c again (steps ++ did ∷ [])
   turned-saw again steps did turns replaced =
       left-saw again steps did (no_attach env.geometry did _ turns (λ table old new l e. cc)) (λ place load. let both = sym turns ∙ load in cc)
-      (λ same. let at : 8 + c ≡ 0 = sym (ap op_place turns) ∙ same in omega (arith, at)) replaced
+      (inl (λ same. let at : 8 + c ≡ 0 = sym (ap op_place turns) ∙ same in omega (arith, at))) replaced
+
+  -- and what keeps section words in the slot of a table that was retired
+  pub keeping-saw : (again : Bool) (slot : ℕ) (state : KeepSectionsAt) (steps : List Did) (did : Did) → slot < 8
+      → IsKeepSectionsAtIn env.geometry state → did.op ≡ keep_sections_plan_at env.geometry slot state
+      → SawReplaced env c again steps → SawReplaced env c again (steps ++ did ∷ [])
+  keeping-saw again slot (keeps.Section caller) steps did slot_in within is saw =
+      loaded-saw again (place_of env.geometry (Section caller)) steps did is
+      (λ table same. let most = env.geometry.within.callers_within in omega (arith, same, within, most)) saw
+  keeping-saw again slot (keeps.Word caller word) steps did slot_in within is saw =
+      let most = env.geometry.within.callers_within in
+      stored-saw again (Slot slot (LoadedSection caller)) word steps did
+      (slot_in, (let low = within.caller_in in omega (arith, low, most))) (λ e. cc) is saw
 
 module _ (env : Env) (c : ℕ) (words_at : ℕ → List ℕ) where
   abbrev Sees : WorkAt → List Did → Type 0
@@ -290,7 +334,7 @@ module _ (env : Env) (c : ℕ) (words_at : ℕ → List ℕ) where
       let moving = since.so.0 in
       let found = since.so.1 in
       let last : Last = record { table = slot; shape = did.old } in
-      let quiet = no_attach env.geometry did _ loaded.word.loads (λ table old new l e. cc) in
+      let quiet = plain env c _ did loaded.word.loads (λ table old new l e. cc) (λ place value adds. cc) in
       by_test (λ t. Sees (cond t (unlocking emptying true) (at.Seed emptying last)) (steps ++ did ∷ []))
       (is_nested did.old)
       (λ t. record {
@@ -306,6 +350,9 @@ module _ (env : Env) (c : ℕ) (words_at : ℕ → List ℕ) where
         shape = did;
         behind = [];
         split = ap (λ s. s ++ did ∷ []) found.behind_is;
+        inside =
+            (AllByRecursion-cut (TurnsNoSection env.geometry) found.before found.futures
+            (subst (StaysInside env c) found.behind_is moving.inside)).0;
         futures_read = found.are;
         apart = λ same. apart (sym moving.root_same ∙ same);
         shape_read = loaded;
@@ -335,6 +382,7 @@ module _ (env : Env) (c : ℕ) (words_at : ℕ → List ℕ) where
     behind = saw.behind ++ did ∷ [];
     split = ap (λ s. s ++ did ∷ []) saw.split
         ∙ append_assoc (saw.before ++ saw.futures) (saw.shape ∷ saw.behind) (did ∷ []);
+    inside = saw.inside;
     futures_read = saw.futures_read;
     apart = saw.apart;
     shape_read = saw.shape_read;
@@ -344,7 +392,7 @@ module _ (env : Env) (c : ℕ) (words_at : ℕ → List ℕ) where
   }
 
   pub unlocked-saw : (rehash : Rehash) (number : ℕ) (stop : Bool) (steps : List Did) (did : Did)
-      → StoresOther env.geometry did → IsNoAttach env.geometry did
+      → StoresOther env.geometry did → IsPlain env c did
       → UnlockingSaw env c words_at rehash stop steps
       → Sees (unlocked_bucket env.geometry rehash number stop) (steps ++ did ∷ [])
   unlocked-saw rehash number true steps did stores quiet saw =
@@ -376,10 +424,16 @@ module _ (env : Env) (c : ℕ) (words_at : ℕ → List ℕ) where
       gone : HasGoneOn env.geometry rehash.root (steps ++ did ∷ [])
       gone = HasGoneOn-push env c rehash.root steps did saw.1
 
-      looked : (table : ℕ) (later : List Did) → table ≡ rehash.future
-          → Any (LoadsWord env.geometry (Slot table FutureWord)) (later ++ did ∷ [])
-      looked table later same =
-          Any-push (LoadsWord env.geometry (Slot table FutureWord)) later did (loaded table same).word
+      -- it is the first one behind the publishing
+      first : (Is : Did → Type 0) (later : List Did) → later ≡ [] → Is did → AnyInSection env.geometry Is (later ++ did ∷ [])
+      first Is later none is =
+          subst (λ l. AnyInSection env.geometry Is (l ++ did ∷ [])) (sym none)
+          (record { before = []; at = did; behind = []; split = refl; inside = tt; is = is })
+
+      looked : (table : ℕ) (later : List Did) → later ≡ [] → table ≡ rehash.future
+          → AnyInSection env.geometry (LoadsWord env.geometry (Slot table FutureWord)) (later ++ did ∷ [])
+      looked table later none same =
+          first (LoadsWord env.geometry (Slot table FutureWord)) later none (loaded table same).word
 
       go : (next : Option ℕ) → slot_of did.old ≡ next
           → Sees (retiring rehash next) (steps ++ did ∷ [])
@@ -388,7 +442,7 @@ module _ (env : Env) (c : ℕ) (words_at : ℕ → List ℕ) where
             let table = moved.published.table in
             record {
               published = IsPublished-push env c of behind did spares moved.published;
-              looked = looked table moved.published.later moved.same;
+              looked = looked table moved.published.later moved.last moved.same;
               says = inr (
                 SaysMissing-push env c rehash.again of.last choice behind did quiet moved.says,
                 subst (λ later. AllByRecursion (FindsNoneFurther env c table) (later ++ did ∷ []))
@@ -403,11 +457,10 @@ module _ (env : Env) (c : ℕ) (words_at : ℕ → List ℕ) where
             let table = moved.published.table in
             record {
               published = IsPublished-push env c of behind did spares moved.published;
-              looked = looked table moved.published.later moved.same;
+              looked = looked table moved.published.later moved.last moved.same;
               says = inl (
                 refl,
-                Any-push (FindsFurther env c table) moved.published.later did
-                    (next, (loaded table moved.same, finds)),
+                first (FindsFurther env c table) moved.published.later moved.last (next, (loaded table moved.same, finds)),
               );
             }),
         gone,

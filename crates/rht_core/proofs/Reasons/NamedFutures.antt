@@ -6,7 +6,7 @@ use Rattle.rht_words.specs.declared.env.Env.{Env}
 use Rattle.rht_words.specs.Places.{Slot, FutureWord}
 use Rattle.rht_words.specs.Links.{slot_of, table_of, future_of}
 use Rattle.rht_ghost.proofs.Theory.Ghosts.{Ghost}
-use Rattle.rht_ghost.proofs.Theory.Wholes.{Whole, IsAt, at-on}
+use Rattle.rht_ghost.proofs.Theory.Wholes.{Whole, IsAt}
 use Rattle.rht_ghost.proofs.Theory.Steps.{mem, by_test}
 use Rattle.rht_ghost.proofs.Pieces.TableLoads.{future_word}
 
@@ -54,7 +54,7 @@ future_few env mix words G slot whole at =
     let here = future_word env mix (mem env mix words) G whole slot at in
     elim (cases_lt (τ + 1) G.attached) [
       | inl more ↦
-          let low = (whole.tables.each (τ + 1) (at-on env mix whole.tables slot at (τ + 1) (omega arith) more)).slot_in in
+          let low = (whole.tables.each (τ + 1) (at.on (τ + 1) (omega arith) more)).slot_in in
           let next = ap (λ t. cond t (future_of (G.table (τ + 1)).slot) 0) (lt-ltb (τ + 1) G.attached more) in
           omega (arith, here, next, low)
       | inr last ↦

@@ -1,10 +1,9 @@
 -- What a bind sees that misses a page on the way to its bucket: it loaded the table's future as none, where its port was bound nowhere or its
 -- bucket was there, then the entry at which the way ends, since that leads to no page, and while it takes a page to enter there, each page before the one at which it stands was seen taken. So
 -- where no page is free, each was.
-use Rattle.std.proofs.Common.{◌≡◌, ℕ, ◌+◌, ◌<◌, ◌==◌, true, arith, List, [], ◌∷◌, ◌++◌, append_assoc, map, Option, Some, None, refl, sym, ap, ◌∙◌, subst, inl, inr}
+use Rattle.std.proofs.Common.{◌≡◌, ℕ, ◌<◌, ◌==◌, true, List, [], ◌∷◌, ◌++◌, append_assoc, map, Option, Some, None, refl, sym, ap, ◌∙◌, subst, inl, inr}
 use Rattle.std.specs.List.{AllByRecursion, Any}
 use Rattle.std.proofs.lemmas.Bool.{cond_both}
-use Rattle.std.proofs.lemmas.List.Elements.{All-from_recursion}
 use Rattle.std.proofs.lemmas.List.{map-append}
 use Rattle.rht_words.specs.declared.env.Env.{Env}
 use Rattle.rht_words.specs.declared.op.Op.{Op}
@@ -27,11 +26,11 @@ use Rattle.rht_nest.specs.Tables.{is_nested}
 use Rattle.rht_nest.specs.Grow.{grow_plan_at, grow_after_at, page_taken, page_entered, page_given, IsGrowAtIn}
 use Rattle.rht_nest.specs.declared.grow.GrowAt.{GrowAt}
 use Rattle.rht_nest.specs.declared.grow.GrowAt.TheVariants as grows
-use Rattle.rht_core.specs.ResizeCauses.{IsNoKeyLoad, AreRunsTaken, MissesPage, SawNoPage}
+use Rattle.rht_core.specs.ResizeCauses.{IsNoKeyLoad, AreRunsTaken, MissesPage, SawNoPage, SawNoneBehind}
 use Rattle.rht_stands.specs.StandsFor.{page_word}
-use Rattle.rht_core.specs.Seen.{IsNoShapeLoad, LastWalked}
-use Rattle.rht_core.specs.Traces.{Did, performed_of, IsRising}
-use Rattle.rht_core.proofs.Tracing.StepsInTraces.{rising-behind, rising_around}
+use Rattle.rht_core.specs.Seen.{IsNoShapeLoad, LastWalked, TurnsNoSection}
+use Rattle.rht_core.specs.Traces.{Did, performed_of}
+use Rattle.rht_core.proofs.Reasons.QuietSteps.{UnturnedBehind, any_split}
 use Rattle.rht_core.proofs.Reasons.UnboundSeen.{SeesNoFuture, unbound-missed}
 use Rattle.rht_ghost.proofs.Theory.Ghosts.{Ghost}
 use Rattle.rht_ghost.proofs.Theory.Wholes.{hash_in, Whole, IsThere, at-there}
@@ -105,7 +104,8 @@ module _ (env : Env) (words_at : ℕ → List ℕ) where
     pub at : Did
     pub taking : List Did
     pub split : behind ≡ before ++ at ∷ taking
-    pub none : Any (SeesNoFuture g words_at mix port table shape) before
+    pub inside : AllByRecursion (TurnsNoSection g) before
+    pub none : Any (SawNoneBehind g words_at port table) before
     pub entry : ℕ
     pub missing : MissesPage g words_at mix port table shape entry at
     pub taken : Saw (map performed_of taking)
@@ -116,18 +116,22 @@ module _ (env : Env) (words_at : ℕ → List ℕ) where
     pub no_key : AllByRecursion (IsNoKeyLoad g) behind
 
   -- the load of the entry
-  pub begins-missing : (mix : ℕ → ℕ → ℕ → ℕ) (port table shape entry : ℕ) (behind : List Did) (did : Did) → is_nested shape ≡ true
+  pub begins-missing : (mix : ℕ → ℕ → ℕ → ℕ) (c port table shape entry : ℕ) (behind : List Did) (did : Did)
+      → AllByRecursion (TurnsNoSection g) behind → UnturnedBehind g words_at c behind did.index → is_nested shape ≡ true
       → MissesPage g words_at mix port table shape entry did → IsNoKeyLoad g did
-      → LoadedEarly g (SeesNoFuture g words_at mix port table shape) None behind
+      → LoadedEarly g (SeesNoFuture g words_at mix c port table shape) None behind
       → SeesMissing mix port table shape (SawGrowing g (grows.Taking (first_run g 1))) (behind ++ did ∷ [])
-  begins-missing mix port table shape entry behind did nested missing no_key seen = record {
+  begins-missing mix c port table shape entry behind did inside calm nested missing no_key seen = record {
     seen = record {
       nested = nested;
       before = behind;
       at = did;
       taking = [];
       split = refl;
-      none = seen.1;
+      inside = inside;
+      none = any_split (SeesNoFuture g words_at mix c port table shape) (SawNoneBehind g words_at port table) behind
+          (λ front early later is sees.
+          unbound-missed g words_at mix c port table shape entry early did nested (calm front early later is) missing sees) seen.1;
       entry = entry;
       missing = missing;
       taken = (tt, refl);
@@ -145,6 +149,7 @@ module _ (env : Env) (words_at : ℕ → List ℕ) where
     at = saw.at;
     taking = saw.taking ++ did ∷ [];
     split = ap (λ l. l ++ did ∷ []) saw.split ∙ append_assoc saw.before (saw.at ∷ saw.taking) (did ∷ []);
+    inside = saw.inside;
     none = saw.none;
     entry = saw.entry;
     missing = saw.missing;
@@ -161,13 +166,15 @@ module _ (env : Env) (words_at : ℕ → List ℕ) where
   }
 
   -- where a page was entered after all, the future was loaded as none
-  pub missing-early : (mix : ℕ → ℕ → ℕ → ℕ) (port table shape : ℕ) (Saw : List Performed → Type 0) (behind : List Did)
+  pub missing-early : (mix : ℕ → ℕ → ℕ → ℕ) (c port table shape : ℕ) (Saw : List Performed → Type 0) (behind : List Did)
       → SeesMissing mix port table shape Saw behind
-      → LoadedEarly g (SeesNoFuture g words_at mix port table shape) None behind
-  missing-early mix port table shape Saw behind saw =
-      let Sees = SeesNoFuture g words_at mix port table shape in
+      → LoadedEarly g (SeesNoFuture g words_at mix c port table shape) None behind
+  missing-early mix c port table shape Saw behind saw =
+      let Sees = SeesNoFuture g words_at mix c port table shape in
       let seen = saw.seen in
-      (saw.no_key, subst (Any Sees) (sym seen.split) (Any-append_left Sees seen.before (seen.at ∷ seen.taking) seen.none))
+      let sees = any_split (SawNoneBehind g words_at port table) Sees seen.before
+      (λ front early later is saw. record { none = saw.none; unbound = inl saw.unbound }) seen.none in
+      (saw.no_key, subst (Any Sees) (sym seen.split) (Any-append_left Sees seen.before (seen.at ∷ seen.taking) sees))
 
   -- A bind that is refused for want of a page has seen all that behind the load of the shape of the last table that it walked.
   pub record NoPageSeen (mix : ℕ → ℕ → ℕ → ℕ) (port size : ℕ) (steps : List Did) : Type 0 where
@@ -193,15 +200,11 @@ module _ (env : Env) (words_at : ℕ → List ℕ) where
       }
 
   -- So the port had no owner at the load of the future, which came before that of the entry.
-  pub no_page-cause : (mix : ℕ → ℕ → ℕ → ℕ) (port size from : ℕ) (steps : List Did) → IsRising from steps
+  pub no_page-cause : (mix : ℕ → ℕ → ℕ → ℕ) (port size : ℕ) (steps : List Did)
       → NoPageSeen mix port size steps → SawNoPage g words_at mix port size steps
-  no_page-cause mix port size from steps rising seen =
+  no_page-cause mix port size steps seen =
       let saw = seen.saw in
       let walked = seen.walked in
-      let Sees = SeesNoFuture g words_at mix port seen.table seen.shape in
-      let later = subst (IsRising (walked.at.index + 1)) saw.split
-      (rising-behind from walked.before walked.at walked.behind (subst (IsRising from) walked.split rising)) in
-      let earlier = (rising_around (walked.at.index + 1) saw.before saw.at saw.taking later).0 in
       record {
         table = seen.table;
         shape = seen.shape;
@@ -212,20 +215,12 @@ module _ (env : Env) (words_at : ℕ → List ℕ) where
         at = saw.at;
         taking = saw.taking;
         split = saw.split;
-        unbound = each saw.before
-            (λ did early. unbound-missed g words_at mix port seen.table seen.shape saw.entry did saw.at saw.nested (omega (arith, early)) saw.missing)
-            earlier saw.none;
+        inside = saw.inside;
+        unbound = saw.none;
         entry = saw.entry;
         missing = saw.missing;
         taken = saw.taken;
       }
-    where
-      -- what is so of any that came earlier
-      each : {Sees More : Did → Type 0} {next : ℕ} (before : List Did) → ((did : Did) → did.index < next → Sees did → More did)
-          → AllByRecursion (λ did. did.index < next) before → Any Sees before → Any More before
-      each {next = next} before further earlier (k, did, within, is, sees) =
-          let early = subst (λ d. d.index < next) is (All-from_recursion (λ d. d.index < next) before earlier k did within) in
-          (k, did, within, is, further did early sees)
 
   -- ---- the entry that was loaded
 
@@ -255,8 +250,8 @@ module _ (env : Env) (words_at : ℕ → List ℕ) where
         ]
 
     -- by the words before the load the way to the port's bucket ends at the entry
-    pub misses-page : (port slot shape : ℕ) (place : PlaceModel) (did : Did)
-        → IsOnWay env mix G port slot shape place None → words ≡ words_at did.index → place.geometry ≡ g
+    pub misses-page : {c : ℕ} (port slot shape : ℕ) (place : PlaceModel) (did : Did)
+        → IsOnWay env mix c G port slot shape place None → words ≡ words_at did.index → place.geometry ≡ g
         → did.op ≡ Load (place_of g (PageWord place.entry)) → page_of g.pages (M (PageWord place.entry)) ≡ None
         → MissesPage g words_at mix port slot shape place.entry did
     misses-page port slot shape place did on now same is none =
@@ -264,7 +259,7 @@ module _ (env : Env) (words_at : ℕ → List ℕ) where
         let at = on.shaped.passing.at in
         let τ = at.table in
         let number = hash_in env mix G port τ in
-        let is_there = at-there env mix whole.tables slot at in
+        let is_there = at-there at in
         let shape_is = on.shaped.shape_is in
         let number_is = hash_in-words env mix words G whole port slot shape at shape_is in
         let ends = way_ends τ number is_there on.to.nested place same on.to.way none in

@@ -25,7 +25,7 @@ use Rattle.rht_bind.specs.declared.bind.Claimed.{Claimed}
 use Rattle.rht_core.specs.Traces.{Did}
 use Rattle.rht_core.specs.Seen.{IsNoShapeLoad, LastWalked}
 use Rattle.rht_core.specs.Causes.{IsRaise}
-use Rattle.rht_core.proofs.Reasons.TablesWalked.{IsNoRaise, no_load, LastWalked-push, Walked, WalkedSeeing}
+use Rattle.rht_core.proofs.Reasons.TablesWalked.{IsNoRaise, no_load, LastWalked-push, Walked, WalkedSeeing, walked-quiet}
 use Rattle.rht_core.proofs.Reasons.RoomSeen.{RoomSeen, RaisedSeen, RaisedSeen-push}
 use Rattle.rht_core.proofs.Reasons.AttachedTables.{IsNoFutureExchange, IsNoAttach, no_attach, AttachedSo, AttachedSo-push}
 
@@ -178,6 +178,7 @@ module _ (env : Env) (words_at : ℕ → List ℕ) (mix : ℕ → ℕ → ℕ �
           rest = [];
           split = refl;
           raises = is;
+          inside = walked-quiet env.geometry claimed.table claimed.shape steps walked;
           first = parts.1;
           seen = seeing.saw;
         });

@@ -19,7 +19,7 @@ use Rattle.rht_words.specs.declared.machine.Next.TheVariants.{Go, Done}
 use Rattle.rht_words.specs.Places.{CurrentTable, PortCount, Slot, FutureWord, place_of}
 use Rattle.rht_words.specs.Links.{table_of}
 use Rattle.rht_words.specs.Shapes.{unpacked, size_of}
-use Rattle.rht_words.proofs.EachElement.{Any-append_left}
+use Rattle.rht_words.proofs.EachElement.{Any-append_left, AllByRecursion-push}
 use Rattle.rht_policy.specs.Thresholds.{is_above_75, is_above_100}
 use Rattle.rht_nest.specs.Make.{MakeModel, may_nest, made_pages, make_plan_at, make_after_at, IsMakeIn, made_shape}
 use Rattle.rht_nest.specs.MakeLaws.{pages_for}
@@ -32,7 +32,7 @@ use Rattle.rht_bind.specs.declared.bind.growth.Growing.{Growing}
 use Rattle.rht_bind.specs.declared.bind.growth.Refusal.{Refusal}
 use Rattle.rht_bind.specs.declared.bind.growth.Refusal.TheVariants as refusals
 use Rattle.rht_core.specs.Traces.{Did, performed_of}
-use Rattle.rht_core.specs.Seen.{LoadsCurrent, IsNoShapeLoad, LastWalked}
+use Rattle.rht_core.specs.Seen.{LoadsCurrent, IsNoShapeLoad, LastWalked, TurnsNoSection}
 use Rattle.rht_core.specs.ResizeCauses.{IsUnboundAt, SawNoneBehind, Loaded, Attaches, FindsFuture, wanted_size, AreNoPages, SawNoRoom, IsNoKeyLoad, SawLongChain}
 use Rattle.rht_core.proofs.Reasons.TablesWalked.{nodes_behind, LastWalked-push}
 use Rattle.rht_core.proofs.Reasons.KeyLoads.{no_key-before, no_key-make}
@@ -45,17 +45,19 @@ use Rattle.rht_core.specs.Attached.{HasTakenSlot, StoresDrawn, SawNoRun}
 use Rattle.rht_core.proofs.Reasons.SlotsTaken.{IsNoCount, Owns, make-own, slot_taken-behind}
 
 module _ (g : Geometry) where
-  -- behind the load of the last table's shape the operations saw this
+  -- behind the load of the last table's shape the operations opened and closed no section, and saw this
   pub record Behind (table shape : ℕ) (Saw : List Did → Type 0) (steps : List Did) : Type 0 where
     pub walked : LastWalked g table shape steps
+    pub quiet : AllByRecursion (TurnsNoSection g) walked.behind
     pub saw : Saw walked.behind
 
   pub Behind-push : (table shape : ℕ) (Saw After : List Did → Type 0) (steps : List Did) (did : Did)
-      → IsNoShapeLoad g did → ((behind : List Did) → Saw behind → After (behind ++ did ∷ []))
+      → IsNoShapeLoad g did → TurnsNoSection g did → ((behind : List Did) → Saw behind → After (behind ++ did ∷ []))
       → Behind table shape Saw steps → Behind table shape After (steps ++ did ∷ [])
   unfolding LastWalked-push
-  Behind-push table shape Saw After steps did none further is = record {
+  Behind-push table shape Saw After steps did none turns further is = record {
     walked = LastWalked-push g table shape steps did none is.walked;
+    quiet = AllByRecursion-push (TurnsNoSection g) is.walked.behind did is.quiet turns;
     saw = further is.walked.behind is.saw;
   }
 
@@ -174,6 +176,7 @@ module _ (env : Env) (words_at : ℕ → List ℕ) (mix : ℕ → ℕ → ℕ �
     pub at : Did
     pub rest : List Did
     pub split : walked.behind ≡ before ++ at ∷ rest
+    pub inside : AllByRecursion (TurnsNoSection g) before
     pub saw : Saw why shape before
     pub last : Last at
 
@@ -235,6 +238,7 @@ module _ (env : Env) (words_at : ℕ → List ℕ) (mix : ℕ → ℕ → ℕ �
     at = saw.at;
     rest = saw.rest ++ did ∷ [];
     split = ap (λ l. l ++ did ∷ []) saw.split ∙ append_assoc saw.before (saw.at ∷ saw.rest) (did ∷ []);
+    inside = saw.inside;
     saw = saw.saw;
     last = saw.last;
   }
@@ -272,6 +276,7 @@ module _ (env : Env) (words_at : ℕ → List ℕ) (mix : ℕ → ℕ → ℕ �
     at = did;
     rest = [];
     split = refl;
+    inside = saw.quiet;
     saw = saw.saw;
     last = last;
   }

@@ -4,7 +4,7 @@
 -- A look-up and a listing have nothing to show. A reading of the count loads what it answers by its one
 -- operation. For this and for a release it counts that each recorded operation stands in the run at its
 -- event.
-use Rattle.std.proofs.Common.{◌≡◌, ℕ, List, ◌∷◌, subst, inl, inr, ◌↔◌, Bool, true, false, refl, sym, arith}
+use Rattle.std.proofs.Common.{◌≡◌, ℕ, List, ◌∷◌, subst, inl, inr, ◌↔◌, Bool, true, false, refl, []}
 use Rattle.std.specs.List.{AllByRecursion, Any}
 use Rattle.std.proofs.lemmas.List.Elements.{All-from_recursion}
 use Rattle.rht_words.specs.declared.op.Op.TheVariants.{Load}
@@ -25,11 +25,10 @@ use Rattle.rht_core.proofs.Counting.FullTables.{counted_at}
 use Rattle.rht_core.proofs.Counting.CountedNodes.{lower_few}
 use Rattle.rht_core.proofs.Reasons.ReleaseKicks.{SawForRelease, kicks_right}
 use Rattle.rht_core.proofs.Reasons.RebindsSeen.{SawForRebind}
-use Rattle.std.specs.Prelude.{None}
 use Rattle.rht_move.specs.declared.work.choice.Choice.{Choice}
 use Rattle.rht_move.specs.declared.work.choice.Choice.TheVariants.{Attach, Later, Nothing}
 use Rattle.rht_core.specs.ResizeCauses.{Attaches}
-use Rattle.rht_core.specs.WorkCauses.{ReadsFuture, IsUnattached, SawNothingDue, SawPublished}
+use Rattle.rht_core.specs.WorkCauses.{IsUnattached, SawNothingDue, SawPublished}
 
 -- a look-up has nothing to show for its answers
 pub find-cause : (reply : Reply) → IsFindReply reply → FindCause reply
@@ -80,6 +79,7 @@ module _ (env : Env) (c : ℕ) where
         table = published.table;
         behind = published.later;
         published = published.published;
+        inside = published.inside;
         followed = published.followed;
         looked = since.so.looked;
         again_right = elim since.so.says [
@@ -88,10 +88,11 @@ module _ (env : Env) (c : ℕ) where
               let right = says-right again last saw.choice since.chose.behind says.0 in (
                 λ is. inr (right.0 is),
                 λ either. elim either [
-                  | inl (k, did, within, is, finds) ↦
+                  | inl further ↦
                       let NoneFurther = FindsNoneFurther env c published.table in
-                      let none = All-from_recursion NoneFurther published.later says.1 k did within in
-                      absurd (subst NoneFurther is none finds)
+                      let none = (AllByRecursion-cut NoneFurther further.before (further.at ∷ further.behind)
+                      (subst (AllByRecursion NoneFurther) further.split says.1)).1.0 in
+                      absurd (none further.is)
                   | inr so ↦ right.1 so
                 ],
               )
@@ -104,9 +105,14 @@ module _ (env : Env) (c : ℕ) where
       let idle = saw.so in
       record {
         chose = saw.chose;
-        none =
-            subst (Any (ReadsFuture env.geometry saw.chose.root None)) (sym idle.behind_is)
-            (0, idle.future, omega arith, refl, (idle.future_read, idle.none));
+        none = record {
+          before = [];
+          at = idle.future;
+          behind = idle.rest;
+          split = idle.behind_is;
+          inside = tt;
+          is = (idle.future_read, idle.none);
+        };
       }
 
   pub work-cause : (words_at : ℕ → List ℕ) (past : Past) (reply : Reply)
@@ -125,6 +131,7 @@ module _ (env : Env) (c : ℕ) where
       shape = stops.shape;
       behind = stops.behind;
       split = stops.split;
+      inside = stops.inside;
       futures_read = stops.futures_read;
       apart = stops.apart;
       shape_read = stops.shape_read;

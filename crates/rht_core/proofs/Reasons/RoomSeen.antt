@@ -12,6 +12,7 @@ use Rattle.rht_policy.specs.Thresholds.{is_above_100, is_above_max}
 use Rattle.rht_core.specs.Traces.{Did}
 use Rattle.rht_core.specs.ResizeCauses.{IsUnboundAt, SawNoneBehind, SawShortChain, IsNoKeyLoad}
 use Rattle.rht_core.specs.RoomCauses.{IsRaise}
+use Rattle.rht_core.specs.Seen.{TurnsNoSection}
 use Rattle.rht_core.proofs.Reasons.TablesWalked.{IsNoRaise}
 use Rattle.rht_core.proofs.Reasons.ChainsCounted.{SawShortChain-push}
 
@@ -63,6 +64,7 @@ module _ (env : Env) (words_at : ℕ → List ℕ) (mix : ℕ → ℕ → ℕ �
     pub rest : List Did
     pub split : behind ≡ before ++ at ∷ rest
     pub raises : IsRaise env.geometry at
+    pub inside : AllByRecursion (TurnsNoSection env.geometry) before
     pub first : AllByRecursion (IsNoRaise env.geometry) before
     pub seen : RoomSeen table shape before
 
@@ -74,6 +76,7 @@ module _ (env : Env) (words_at : ℕ → List ℕ) (mix : ℕ → ℕ → ℕ �
     rest = raised.rest ++ did ∷ [];
     split = ap (λ l. l ++ did ∷ []) raised.split ∙ append_assoc raised.before (raised.at ∷ raised.rest) (did ∷ []);
     raises = raised.raises;
+    inside = raised.inside;
     first = raised.first;
     seen = raised.seen;
   }

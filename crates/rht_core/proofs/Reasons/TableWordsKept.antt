@@ -18,13 +18,13 @@ use Rattle.rht_words.proofs.Memory.{Memory, is_write}
 use Rattle.rht_words.proofs.PlacesApart.{parts_in_order}
 use Rattle.rht_core.specs.Traces.{Did, performed_of}
 use Rattle.rht_core.specs.ResizeCauses.{Attaches}
-use Rattle.rht_core.specs.Attached.{ChangesTable, ChangesCurrent, MovesOn, ChangesState, ChangesWorkLock}
+use Rattle.rht_core.specs.Attached.{ChangesTable, ChangesKept, ChangesCurrent, MovesOn, ChangesState, ChangesWorkLock}
 use Rattle.rht_core.specs.WorkCauses.{TakesWorkLock}
-use Rattle.rht_ghost.proofs.Theory.Ghosts.{Ghost}
+use Rattle.rht_ghost.proofs.Theory.Ghosts.{Ghost, Retiring}
 use Rattle.rht_ghost.proofs.Theory.Wholes.{Whole, force-there}
 use Rattle.rht_ghost.proofs.Theory.Departures.{CanPublish, published, CanRetire}
 use Rattle.rht_ghost.proofs.Theory.Steps as steps
-use Rattle.rht_ghost.proofs.Theory.Steps.{mem, ghost_after, LeavesBits, DoesPublish, Holding, Does, ReadyFor, DoesQuiet, IsAside, Move, Quiet, TakesNode, GivesNode, TakesLock, DropsLock, Raises, Links, Lowers, Rebinds, LinksBehind, Arms, TakesSlot, GivesSlot, TakesPages, GivesPages, Enters, TakesWork, GivesWork, BeginsMoving, TakesSecond, Leaves, Arrives, CutsOff, Publishes, Retires, Opens, Closes, ReturnsNode, IsOnOwnSlot, DoesAttach, DoesTakeSlot, DoesGiveSlot, DoesRetire, DoesTakeWork, DoesGiveWork}
+use Rattle.rht_ghost.proofs.Theory.Steps.{mem, ghost_after, LeavesBits, DoesPublish, Holding, Does, ReadyFor, DoesQuiet, IsAside, Move, Quiet, TakesNode, GivesNode, TakesLock, DropsLock, Raises, Links, Lowers, Rebinds, LinksBehind, Arms, TakesSlot, GivesSlot, TakesPages, GivesPages, Enters, TakesWork, GivesWork, BeginsMoving, TakesSecond, Leaves, Arrives, CutsOff, Publishes, Retires, KeepsWord, Settles, Withdraws, TakesBack, Opens, Closes, ReturnsNode, IsOnOwnSlot, DoesAttach, DoesTakeSlot, DoesGiveSlot, DoesRetire, DoesKeepWord, DoesTakeWork, DoesGiveWork}
 use Rattle.rht_core.proofs.Meaning.TablesInForce.{current_slot, future-leads, current_on}
 use Rattle.rht_nest.specs.MakeLaws.{slot_taking, TakesSlot as TakesSlotNow}
 use Rattle.rht_ghost.proofs.Theory.Readiness.{IsAttaching}
@@ -54,6 +54,14 @@ module _ (g : Geometry) (slot : ℕ) (slot_in : slot < 8) where
   state_far other (SerialWord, of, at) = absurd (omega (arith, at))
   state_far other (StateWord, of, at) = absurd of
   state_far other (LoadedSection caller, of, at) = absurd of
+
+  pub kept_far : (other caller : ℕ) → caller < 16 → IsWordHere (place_of g (Slot other (LoadedSection caller))) → ⊥
+  kept_far other caller few (ShapeWord, of, at) = absurd (omega (arith, at, few))
+  kept_far other caller few (SeedWord, of, at) = absurd (omega (arith, at, few))
+  kept_far other caller few (FutureWord, of, at) = absurd (omega (arith, at, few))
+  kept_far other caller few (SerialWord, of, at) = absurd (omega (arith, at, few))
+  kept_far other caller few (StateWord, of, at) = absurd of
+  kept_far other caller few (LoadedSection caller', of, at) = absurd of
 
   -- two words of tables at one place are those of one slot
   pub one_slot : (other : ℕ) (there word : SlotWord) → IsTableWord there → IsTableWord word
@@ -85,8 +93,8 @@ same_word did fits leaves = same_from_bits_below 64 (word_after did.old did.op) 
 -- ---- of which kind a move is
 
 -- The operation leaves each bit. Or it is on a word that is neither a slot's, nor that of the current table, nor the work lock; or on one that
--- says something of the table in the slot that the call has. Or it attaches a table, takes a slot, gives it back or retires it, publishes the
--- next table, or takes the work lock or gives it back.
+-- says something of the table in the slot that the call has. Or it attaches a table, takes a slot, gives it back or retires it, keeps a section
+-- word in it, publishes the next table, or takes the work lock or gives it back.
 module _ (env : Env) (mix : ℕ → ℕ → ℕ → ℕ) (c : ℕ) (M : Memory) (G : Ghost) (did : Did) (before after : Holding) where
   abbrev g : Geometry
   g = env.geometry
@@ -101,6 +109,8 @@ module _ (env : Env) (mix : ℕ → ℕ → ℕ → ℕ) (c : ℕ) (M : Memory) 
     giving : (slot : ℕ) → DoesGiveSlot env.geometry slot did.op before (steps.bare after) → IsOfKind (GivesSlot slot)
     retiring : (slot : ℕ) → CanRetire env mix c slot G → DoesRetire env.geometry slot did.op before (steps.bare after)
         → IsOfKind (Retires slot)
+    keeping : (move : Move) (slot caller word table : ℕ) → G.slot slot ≡ Retiring table
+        → DoesKeepWord env.geometry slot caller word did.op before (steps.bare after) → IsOfKind move
     publishing : CanPublish env mix c G → DoesPublish env.geometry did.op before (steps.bare after) → IsOfKind Publishes
     taking_work : DoesTakeWork env.geometry did.op did.old before (steps.bare after) → IsOfKind TakesWork
     giving_work : DoesGiveWork env.geometry did.op before (steps.bare after) → IsOfKind GivesWork
@@ -160,6 +170,11 @@ module _ (env : Env) (mix : ℕ → ℕ → ℕ → ℕ) (c : ℕ) (M : Memory) 
   kind_of_move (CutsOff j entry (Some b)) ready does = nodes _ _ does.on (omega arith)
   kind_of_move Publishes ready does = publishing ready does
   kind_of_move (Retires s) ready does = retiring s ready does
+  kind_of_move (KeepsWord s d word) ready does = keeping _ s d word ready.table ready.retiring does
+  kind_of_move (Settles s d word) ready does = keeping _ s d word ready.table ready.retiring does
+  kind_of_move (Withdraws j p) ready does = pages _ j (ap op_place does.clearing)
+  kind_of_move (TakesBack s index bits) ready does =
+      let order = parts_in_order g in high _ _ does.sets.on (omega (arith, order.page_map))
   kind_of_move (Opens d) ready does = low _ (8 + d) (ap op_place does.turns) (omega arith) (omega (arith, does.within))
   kind_of_move (Closes d) ready does = low _ (8 + d) (ap op_place does.turns) (omega arith) (omega (arith, does.within))
 
@@ -205,6 +220,9 @@ module _ (env : Env) (mix : ℕ → ℕ → ℕ → ℕ) (c : ℕ) (M : Memory) 
     by_kind move (taking s does) = far_state s (ap op_place does.taking)
     by_kind move (giving s does) = far_state s (ap op_place does.giving)
     by_kind move (retiring s ready does) = far_state s (ap op_place does.retiring)
+    by_kind move (keeping _ s d word τ retired does) =
+        absurd (kept_far g slot changes.slot_in s d does.caller_in
+        (changes.word, changes.of_table, sym (ap op_place does.keeping) ∙ changes.there))
     by_kind move (publishing ready does) =
         absurd (low_far g slot changes.slot_in 0 (omega arith) (changes.word, changes.of_table, sym does.on ∙ changes.there))
     by_kind move (taking_work does) =
@@ -267,12 +285,64 @@ module _ (env : Env) (mix : ℕ → ℕ → ℕ → ℕ) (c : ℕ) (M : Memory) 
           moves = does.moves;
           can = subst (λ x. CanRetire env mix c x G) same ready;
         }))
+    state_by_kind move (keeping _ s d word τ retired does) =
+        absurd (let at = sym (ap op_place does.keeping) ∙ changes.there in let few = does.caller_in in omega (arith, at, few))
     state_by_kind move (publishing ready does) = absurd (let at = sym does.on ∙ changes.there in omega (arith, at))
     state_by_kind move (taking_work does) = absurd (let at = sym (ap op_place does.taking) ∙ changes.there in omega (arith, at))
     state_by_kind move (giving_work does) = absurd (let at = sym (ap op_place does.giving) ∙ changes.there in omega (arith, at))
 
     pub state_by_move : (move : Move) → ReadyFor env mix c M G move → Does env mix move did.op did.old before after → StateHere slot
     state_by_move move ready does = state_by_kind move (kind_of_move move ready does)
+
+  -- ---- the section words that are kept in slots
+
+  -- the call moves tables, and keeps a word in the slot of one that is being retired
+  pub record KeepsHere (slot : ℕ) : Type 0 where
+    pub moves : before.moving ≡ true
+    pub table : ℕ
+    pub retiring : G.slot slot ≡ Retiring table
+    pub word : ℕ
+    pub caller : ℕ
+    pub caller_in : caller < 16
+    pub stores : did.op ≡ Store (place_of env.geometry (Slot slot (LoadedSection caller))) word
+
+  module _ (slot caller : ℕ) (fits : FitBefore did) (changes : ChangesKept g slot caller did) where
+    kept_by_kind : (move : Move) → IsOfKind move → KeepsHere slot
+    kept_by_kind move (leaves _ all) = absurd (changes.other (same_word did fits all))
+    kept_by_kind move (elsewhere _ some (inl under)) = absurd (let at = changes.there in omega (arith, at, under))
+    kept_by_kind move (elsewhere _ some (inr over)) =
+        absurd (let at = changes.there in let few = changes.slot_in in let low = changes.caller_in in omega (arith, at, over, few, low))
+    kept_by_kind move (on_own _ own) =
+        absurd (kept_far g own.slot own.within slot caller changes.caller_in (own.word, own.of_table, sym changes.there ∙ own.place))
+    kept_by_kind move (attaching made shape seed serial ready does) =
+        absurd (kept_far g does.last does.within slot caller changes.caller_in
+        (FutureWord, tt, sym changes.there ∙ ap op_place does.attaching))
+    kept_by_kind move (taking s does) =
+        absurd (let at = sym (ap op_place does.taking) ∙ changes.there in let low = changes.caller_in in omega (arith, at, low))
+    kept_by_kind move (giving s does) =
+        absurd (let at = sym (ap op_place does.giving) ∙ changes.there in let low = changes.caller_in in omega (arith, at, low))
+    kept_by_kind move (retiring s ready does) =
+        absurd (let at = sym (ap op_place does.retiring) ∙ changes.there in let low = changes.caller_in in omega (arith, at, low))
+    kept_by_kind move (keeping _ s d word τ retired does) =
+        let at = sym (ap op_place does.keeping) ∙ changes.there in
+        let low = changes.caller_in in
+        let few = does.caller_in in
+        let same : s ≡ slot = omega (arith, at, low, few) in
+        record {
+          moves = does.moves;
+          table = τ;
+          retiring = ap G.slot (sym same) ∙ retired;
+          word = word;
+          caller = d;
+          caller_in = does.caller_in;
+          stores = subst (λ x. did.op ≡ Store (place_of g (Slot x (LoadedSection d))) word) same does.keeping;
+        }
+    kept_by_kind move (publishing ready does) = absurd (let at = sym does.on ∙ changes.there in omega (arith, at))
+    kept_by_kind move (taking_work does) = absurd (let at = sym (ap op_place does.taking) ∙ changes.there in omega (arith, at))
+    kept_by_kind move (giving_work does) = absurd (let at = sym (ap op_place does.giving) ∙ changes.there in omega (arith, at))
+
+    pub kept_by_move : (move : Move) → ReadyFor env mix c M G move → Does env mix move did.op did.old before after → KeepsHere slot
+    kept_by_move move ready does = kept_by_kind move (kind_of_move move ready does)
 
 -- ---- the work lock
 
@@ -303,6 +373,7 @@ module _ (env : Env) (mix : ℕ → ℕ → ℕ → ℕ) (c : ℕ) (M : Memory) 
     lock_by_kind move (taking s does) = off_lock _ (ap op_place does.taking) (omega arith)
     lock_by_kind move (giving s does) = off_lock _ (ap op_place does.giving) (omega arith)
     lock_by_kind move (retiring s ready does) = off_lock _ (ap op_place does.retiring) (omega arith)
+    lock_by_kind move (keeping _ s d word τ retired does) = off_lock _ (ap op_place does.keeping) (omega arith)
     lock_by_kind move (publishing ready does) = off_lock _ does.on (omega arith)
     lock_by_kind move (taking_work does) = inl (record {
       takes = record { tries = does.taking; free = does.free };
@@ -372,6 +443,7 @@ module _ (env : Env) (mix : ℕ → ℕ → ℕ → ℕ) (c : ℕ) (words : List
   current_by_kind move (taking s does) then = far _ (ap op_place does.taking) (omega arith)
   current_by_kind move (giving s does) then = far _ (ap op_place does.giving) (omega arith)
   current_by_kind move (retiring s ready does) then = far _ (ap op_place does.retiring) (omega arith)
+  current_by_kind move (keeping _ s d word τ retired does) then = far _ (ap op_place does.keeping) (omega arith)
   current_by_kind move (publishing ready does) then = publishes ready then does
   current_by_kind move (taking_work does) then = far _ (ap op_place does.taking) (omega arith)
   current_by_kind move (giving_work does) then = far _ (ap op_place does.giving) (omega arith)

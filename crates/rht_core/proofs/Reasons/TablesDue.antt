@@ -36,18 +36,22 @@ use Rattle.rht_move.specs.declared.work.WorkAt.TheVariants as at
 use Rattle.rht_move.specs.Choice.{choice_of}
 use Rattle.rht_move.specs.Laws.{IsOfASize}
 use Rattle.rht_move.specs.LastTable.{last_table_plan_at, last_table_after, next_or_shape, IsLastTableAtIn}
-use Rattle.rht_move.specs.Work.{lock_seen, letting_go, seeking, last_seen, begun, made, not_made, attached, unmade, is_later, future_or_idle, IsMakingIn}
+use Rattle.rht_move.specs.Work.{lock_seen, returning, returned, letting_go, seeking, last_seen, begun, made, not_made, attached, unmade, is_later, future_or_idle, IsMakingIn}
 use Rattle.rht_core.specs.Traces.{Did, performed_of}
 use Rattle.rht_core.specs.ResizeCauses.{Loaded, Attaches, AreSlotsTaken, AreRunsTaken, SawNoRoom}
-use Rattle.rht_core.specs.Seen.{TurnsSection}
+use Rattle.rht_core.specs.Seen.{TurnsSection, TurnsNoSection}
 use Rattle.rht_core.specs.WorkCauses.{ReadsFuture, HasChosen, IsSized, TriesToAttach, HasTried}
 use Rattle.rht_ghost.proofs.Theory.Steps.{by_test}
 use Rattle.rht_core.proofs.Reasons.AttachedTables.{IsNoAttach, no_attach, make-none}
 use Rattle.rht_core.proofs.Reasons.MakesSeen.{SawMaking, SawMade, IsShaped, saw_nothing, make-saw}
 use Rattle.rht_core.proofs.Reasons.MadeSizes.{due_size, shaped_flat, size_of-made, pages-sized}
-use Rattle.rht_core.proofs.Reasons.ChoicesMade.{Chosen, futures_next, Began-push, HasLock, HasOpened, SeekSaw, Measures, Since, chosen_by, Since-push, SinceSome-push}
-use Rattle.rht_core.proofs.Reasons.WorksSeen.{NoneAttached, Wants, IsMaking, Makes, IsSupplied, DueSaw, IsTried, IsDue, HasDue, IsMade, IsToAttach, SaysMissing, IsIdle, NoneAttached-push, SaysMissing-push, IsTried-push, SawAtWork, SawNextWork, to_attach-taken}
+use Rattle.rht_core.proofs.Reasons.ChoicesMade.{Chosen, futures_next, Began-push, Returns, HasReturned, HasOpened, SeekSaw, Measures, GaveBack, Since, chosen_by, Since-push, SinceSome-push}
+use Rattle.rht_core.proofs.Reasons.WorksSeen.{NoneAttached, Wants, IsMaking, Makes, IsSupplied, DueSaw, IsTried, IsDue, HasDue, IsMade, IsToAttach, SaysMissing, IsIdle, NoneAttached-push, SaysMissing-push, IsTried-push, SawAtWork, SawNextWork, to_attach-taken, StaysInside, StaysInside-push}
 use Rattle.rht_core.proofs.Reasons.SlotsTaken.{make-own, slot_taken-push, lost-keeps, OwnUnmade}
+use Rattle.rht_core.proofs.Reasons.TablesWalked.{no_turn, make_turns}
+use Rattle.rht_core.proofs.Reasons.ReturnsSeen.{IsPartOf, HasSeen, returns-begin, returns-go, returns-end, returning_step}
+use Rattle.rht_core.proofs.Reasons.ReturnsSoFar.{NextSoFar, slot-goes}
+use Rattle.rht_reclaim.specs.ReturnTables.{ReturnTablesModel, return_tables_plan, return_tables_after, IsReturnTablesIn, return_tables_after_at, return_tables_plan_at}
 
 -- an operation of the making of a table, which found this word
 abbrev made_step : Geometry → MakeModel → ℕ → Performed
@@ -68,15 +72,18 @@ module _ (env : Env) (c : ℕ) (words_at : ℕ → List ℕ) where
   Sees = SawAtWork env c words_at
 
   pub lock-saw : (steps : List Did) (did : Did) → did.op ≡ Exchange (place_of env.geometry WorkLock) 0 1 → steps ≡ []
-      → SawNextWork env c words_at (steps ++ did ∷ []) (lock_seen did.old)
+      → SawNextWork env c words_at (steps ++ did ∷ []) (lock_seen env.geometry did.old)
   lock-saw steps did is none =
       by_test (λ t. SawNextWork env c words_at (steps ++ did ∷ [])
-      (cond t (at.Opening, Go) (at.WorkLock, Done Elsewhere)))
+      (cond t (returning env.geometry, Go) (at.WorkLock, Done Elsewhere)))
       (did.old == 0)
       (λ t. record {
         lock = did;
-        only = ap (λ s. s ++ did ∷ []) none;
+        sooner = [];
+        split = ap (λ s. s ++ did ∷ []) none;
         took = record { tries = is; free = eqb-true did.old 0 t };
+        so_far = returns-begin env.geometry;
+        of_slot = tt;
       })
       (λ f. record {
         did = did;
@@ -84,12 +91,67 @@ module _ (env : Env) (c : ℕ) (words_at : ℕ → List ℕ) where
         finds = record { tries = is; taken = eqb-false did.old 0 f };
       })
 
-  pub opening-saw : (steps : List Did) (did : Did) → TurnsSection env.geometry c did → HasLock env c steps → HasOpened env c (steps ++ did ∷ [])
+  -- an operation of the giving back
+  pub returned-saw : (returns : ReturnTablesModel) (steps : List Did) (did : Did) → IsReturnTablesIn env.geometry returns
+      → did.op ≡ return_tables_plan returns → Returns env c returns steps
+      → Sees (returned (return_tables_after returns did.old).0 (return_tables_after returns did.old).1) (steps ++ did ∷ [])
+  returned-saw returns steps did within is saw = go (return_tables_after returns did.old).1 refl
+    where
+      sooner : List Did
+      sooner = saw.sooner ++ did ∷ []
+
+      split : steps ++ did ∷ [] ≡ saw.lock ∷ sooner
+      split = ap (λ s. s ++ did ∷ []) saw.split
+
+      by_op : Op → Performed
+      by_op op = record { op = op; old = did.old }
+
+      are : map performed_of saw.sooner ++ returning_step returns did.old ∷ [] ≡ map performed_of sooner
+      are =
+          ap (λ (op : Op). map performed_of saw.sooner ++ by_op op ∷ []) (sym is)
+          ∙ sym (map-append performed_of saw.sooner (did ∷ []))
+
+      -- with the slot at which it is it has done what its next state says
+      of_slot : NextSoFar env.geometry (return_tables_after_at returns.geometry returns.at did.old) (steps ++ did ∷ [])
+      of_slot =
+          subst (λ g. NextSoFar env.geometry (return_tables_after_at g returns.at did.old) (steps ++ did ∷ []))
+          (sym within.geometry_same)
+          (slot-goes env.geometry steps did returns.at within.at_in
+          (is ∙ ap (λ g. return_tables_plan_at g returns.at) within.geometry_same) saw.of_slot)
+
+      go : (next : Next (Unit {0})) → (return_tables_after returns did.old).1 ≡ next
+          → Sees (returned (return_tables_after returns did.old).0 next) (steps ++ did ∷ [])
+      go Go goes = record {
+        lock = saw.lock;
+        sooner = sooner;
+        split = split;
+        took = saw.took;
+        so_far =
+            subst (λ l. IsPartOf env.geometry l (return_tables_after returns did.old).0) are
+            (returns-go env.geometry (map performed_of saw.sooner) returns did.old goes saw.so_far);
+        of_slot =
+            subst (λ next. NextSoFar env.geometry ((return_tables_after_at returns.geometry returns.at did.old).0, next) (steps ++ did ∷ []))
+            goes of_slot;
+      }
+      go (Done tt) ends = record {
+        lock = saw.lock;
+        sooner = sooner;
+        split = split;
+        took = saw.took;
+        returned =
+            subst (HasSeen env.geometry) are
+            (returns-end env.geometry (map performed_of saw.sooner) returns did.old ends saw.so_far);
+      }
+
+  pub opening-saw : (steps : List Did) (did : Did) → TurnsSection env.geometry c did → HasReturned env c steps
+      → HasOpened env c (steps ++ did ∷ [])
   opening-saw steps did opens has = record {
     lock = has.lock;
+    sooner = has.sooner;
     opening = did;
-    only = ap (λ s. s ++ did ∷ []) has.only;
+    split = ap (λ s. s ++ did ∷ []) has.split;
     took = has.took;
+    returned = has.returned;
     opens = opens;
   }
 
@@ -99,10 +161,12 @@ module _ (env : Env) (c : ℕ) (words_at : ℕ → List ℕ) where
     futures = [];
     began = record {
       lock = has.lock;
+      sooner = has.sooner;
       opening = has.opening;
       current = did;
-      split = ap (λ s. s ++ did ∷ []) has.only;
+      split = ap (λ s. s ++ did ∷ []) has.split ∙ append_assoc (has.lock ∷ has.sooner) (has.opening ∷ []) (did ∷ []);
       took = has.took;
+      returned = has.returned;
       opens = has.opens;
       current_read = reads env CurrentTable did tt is;
       root_is = refl;
@@ -148,6 +212,7 @@ module _ (env : Env) (c : ℕ) (words_at : ℕ → List ℕ) where
         root = root;
         last = last.table;
         lock = began.lock;
+        sooner = began.sooner;
         opening = began.opening;
         current = began.current;
         futures = saw.futures;
@@ -155,8 +220,11 @@ module _ (env : Env) (c : ℕ) (words_at : ℕ → List ℕ) where
         count = did;
         behind = [];
         split = began.split
-            ∙ ap (λ s. began.lock ∷ began.opening ∷ began.current ∷ s) (append_assoc saw.futures (saw.shape ∷ []) (did ∷ []));
+            ∙ ap (λ s. (began.lock ∷ began.sooner) ++ began.opening ∷ began.current ∷ s)
+            (append_assoc saw.futures (saw.shape ∷ []) (did ∷ []))
+            ∙ sym (append_assoc (began.lock ∷ began.sooner) (began.opening ∷ began.current ∷ saw.futures) (saw.shape ∷ did ∷ []));
         took = began.took;
+        returned = began.returned.slots;
         opens = began.opens;
         current_read = began.current_read;
         root_is = began.root_is;
@@ -173,6 +241,7 @@ module _ (env : Env) (c : ℕ) (words_at : ℕ → List ℕ) where
   unfolding chosen-saw
   begun-saw root last (Attach size) steps did is chosen saw = record {
     chose = chosen-saw root last (Attach size) steps did is chosen saw;
+    gave = (Began-push env c root (saw.futures ++ saw.shape ∷ []) steps did saw.began).returned.within;
     so = record {
       wants = record {
         root_same = refl;
@@ -180,6 +249,7 @@ module _ (env : Env) (c : ℕ) (words_at : ℕ → List ℕ) where
         shape_same = saw.same;
         size_in = subst IsOfASize chosen (due_size env did.old last.shape (root == last.table) saw.small);
       };
+      inside = tt;
       none = tt;
       made = saw_nothing env.geometry (exponent_made size) false [] tt tt;
       own = record { slot = tt; uncounted = tt };
@@ -189,8 +259,10 @@ module _ (env : Env) (c : ℕ) (words_at : ℕ → List ℕ) where
     choice = Later;
     since = record {
       chose = chosen-saw root last Later steps did is chosen saw;
+      gave = (Began-push env c root (saw.futures ++ saw.shape ∷ []) steps did saw.began).returned.within;
       so = record {
         root_same = refl;
+        inside = tt;
         saw = ((λ e. absurd (cc)), tt);
         tried = λ size is. absurd (cc);
         at_once = λ e. absurd (cc);
@@ -201,7 +273,8 @@ module _ (env : Env) (c : ℕ) (words_at : ℕ → List ℕ) where
     choice = Nothing;
     since = record {
       chose = chosen-saw root last Nothing steps did is chosen saw;
-      so = record { root_same = refl; saw = refl; tried = λ size is. absurd (cc); at_once = λ e. refl };
+      gave = (Began-push env c root (saw.futures ++ saw.shape ∷ []) steps did saw.began).returned.within;
+      so = record { root_same = refl; inside = tt; saw = refl; tried = λ size is. absurd (cc); at_once = λ e. refl };
     };
   }
 
@@ -220,10 +293,11 @@ module _ (env : Env) (c : ℕ) (words_at : ℕ → List ℕ) where
   -- a table that was wanted is due, and isn't attached; the current one can be moved without it
   wanted-due : (wanted : Wanted) (of : Chosen) (behind : List Did)
       → ((wanted.root == wanted.last.table) || is_nested wanted.last.shape) ≡ false
-      → Wants env c wanted of → NoneAttached env c of.last behind
+      → Wants env c wanted of → StaysInside env c behind → NoneAttached env c of.last behind
       → IsDue env c wanted.root dues.Later (Attach wanted.size) of behind
-  wanted-due wanted of behind apart wants none = record {
+  wanted-due wanted of behind apart wants inside none = record {
     root_same = wants.root_same;
+    inside = inside;
     saw = ((λ e. absurd (cc)), none);
     tried = λ size is stays. absurd (elim stays [
       | inl same ↦
@@ -242,11 +316,11 @@ module _ (env : Env) (c : ℕ) (words_at : ℕ → List ℕ) where
       neither true b is = absurd (cc)
       neither false b is = (refl, is)
 
-  refused-saw : (wanted : Wanted) (all : List Did) (chose : HasChosen env c (Attach wanted.size) all)
+  refused-saw : (wanted : Wanted) (all : List Did) (chose : HasChosen env c (Attach wanted.size) all) → GaveBack env c chose.sooner
       → Wants env c wanted (chosen_by env c (Attach wanted.size) all chose)
-      → NoneAttached env c chose.last chose.behind
+      → StaysInside env c chose.behind → NoneAttached env c chose.last chose.behind
       → SawNoRoom env.geometry wanted.size false chose.behind → Sees (not_made wanted) all
-  refused-saw wanted all chose wants none room =
+  refused-saw wanted all chose gave wants inside none room =
       let one = wanted.root == wanted.last.table in
       let nested = is_nested wanted.last.shape in
       by_test
@@ -266,7 +340,8 @@ module _ (env : Env) (c : ℕ) (words_at : ℕ → List ℕ) where
         choice = Attach wanted.size;
         since = record {
           chose = chose;
-          so = wanted-due wanted (chosen_by env c (Attach wanted.size) all chose) chose.behind f wants none;
+          gave = gave;
+          so = wanted-due wanted (chosen_by env c (Attach wanted.size) all chose) chose.behind f wants inside none;
         };
       })
     where
@@ -326,6 +401,7 @@ module _ (env : Env) (c : ℕ) (words_at : ℕ → List ℕ) where
       let next = make_after_at make.geometry make.exponent make.nested make.at did.old in
       go next (Since-push env c (Attach wanted.size) steps did saw (λ of behind making. record {
         wants = making.wants;
+        inside = StaysInside-push env c behind did turns making.inside;
         none = NoneAttached-push env c of.last behind did quiet making.none;
         made = making-saw wanted make behind did within is making.made;
         own = make-own env.geometry make.exponent make.geometry make.seed make.nested make.at behind did is making.own;
@@ -335,13 +411,16 @@ module _ (env : Env) (c : ℕ) (words_at : ℕ → List ℕ) where
       quiet = no_attach env.geometry did (make_plan make) is
           (make-none env.geometry make.geometry make.exponent make.seed make.at)
 
+      turns : TurnsNoSection env.geometry did
+      turns = make_turns env.geometry make.geometry make.exponent make.seed make.at did is
+
       go : (r : MakeAt × Next (Option (ℕ × ℕ)))
           → Since env c (Attach wanted.size) (IsMaking env c wanted make.exponent r) (steps ++ did ∷ [])
           → Sees (made wanted (record make { at = r.0 }) r.1) (steps ++ did ∷ [])
       go (state, Go) since = since
       go (state, Done None) since =
           let steps_since = map performed_of since.chose.behind in
-          refused-saw wanted (steps ++ did ∷ []) since.chose since.so.wants since.so.none
+          refused-saw wanted (steps ++ did ∷ []) since.chose since.gave since.so.wants since.so.inside since.so.none
           (subst (λ pages. AreSlotsTaken env.geometry steps_since ⊎ AreRunsTaken env.geometry pages 0 [] steps_since)
           (pages-sized wanted.size since.so.wants.size_in)
           (subst
@@ -357,9 +436,11 @@ module _ (env : Env) (c : ℕ) (words_at : ℕ → List ℕ) where
             wanted.size,
             record {
               chose = since.chose;
+              gave = since.gave;
               so = record {
                 root_same = wants.root_same;
                 last_same = wants.last_same;
+                inside = since.so.inside;
                 none = since.so.none;
                 sized = sized;
                 taken = own.taken;
@@ -386,6 +467,7 @@ module _ (env : Env) (c : ℕ) (words_at : ℕ → List ℕ) where
       (did.old == 0)
       (λ t. some (Since-push env c (Attach size) steps did since (λ of behind due. record {
         root_same = due.root_same;
+        inside = StaysInside-push env c behind did turns due.inside;
         saw = record {
           slot = slot;
           before = behind;
@@ -408,6 +490,7 @@ module _ (env : Env) (c : ℕ) (words_at : ℕ → List ℕ) where
       (λ f. (
         some (Since-push env c (Attach size) steps did since (λ of behind due. record {
           root_same = due.root_same;
+          inside = StaysInside-push env c behind did turns due.inside;
           saw = (
             (λ e. absurd (cc)),
             NoneAttached-push env c of.last behind did
@@ -420,6 +503,9 @@ module _ (env : Env) (c : ℕ) (words_at : ℕ → List ℕ) where
             (to_attach-taken env c root last slot shape steps (size, since)),
       ))
     where
+      turns : TurnsNoSection env.geometry did
+      turns = no_turn env.geometry did _ is (λ place value adds. cc)
+
       some : {due : Due} → Since env c (Attach size) (IsDue env c root due (Attach size)) (steps ++ did ∷ [])
           → HasDue env c root due (steps ++ did ∷ [])
       some since = record { choice = Attach size; since = since }
@@ -488,6 +574,8 @@ module _ (env : Env) (c : ℕ) (words_at : ℕ → List ℕ) where
       go due (Some next) finds none has =
           SinceSome-push env c steps did has (λ choice of behind due_now. record {
             root_same = due_now.root_same;
+            inside =
+                StaysInside-push env c behind did (no_turn env.geometry did _ is (λ place value adds. cc)) due_now.inside;
             followed = Any-push (ReadsFuture env.geometry of.root (Some next)) behind did
                 (loaded of.root due_now.root_same, finds);
             apart = λ same. apart next finds (sym due_now.root_same ∙ same);

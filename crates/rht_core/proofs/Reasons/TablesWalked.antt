@@ -13,7 +13,7 @@ use Rattle.rht_words.specs.declared.geometry.Geometry.{Geometry}
 use Rattle.rht_words.specs.Links.{table_of, slot_of}
 use Rattle.rht_words.specs.Operations.{op_place}
 use Rattle.rht_words.specs.Places.{CurrentTable, PageMap, PortCount, Section, Node, NodeWord, ChainLink, KeyWord, Slot, ShapeWord, SeedWord, FutureWord, PageWord, IsBucketPlace, nodes_at, pages_at, place_of}
-use Rattle.rht_words.proofs.EachElement.{Any-append_left, AllByRecursion-push, AllByRecursion-append}
+use Rattle.rht_words.proofs.EachElement.{Any-append_left, AllByRecursion-push, AllByRecursion-append, AllByRecursion-weaker}
 use Rattle.rht_words.proofs.PlacesApart.{parts_in_order}
 use Rattle.rht_nest.specs.Locate.{LocateModel, locate_plan_at, locate_after_at, hashed, entry_followed, IsLocateAtIn}
 use Rattle.rht_nest.specs.declared.locate.LocateAt.{LocateAt}
@@ -50,9 +50,10 @@ use Rattle.rht_nest.specs.Make.{make_plan_at}
 use Rattle.rht_nest.specs.declared.make.MakeAt.{MakeAt}
 use Rattle.rht_nest.specs.declared.make.MakeAt.TheVariants as makes
 use Rattle.rht_core.specs.Traces.{Did}
-use Rattle.rht_core.specs.Seen.{CameTo, as_current, as_future, StaysInSection, IsNoShapeLoad, LastWalked}
+use Rattle.rht_core.specs.Seen.{CameTo, as_current, as_future, StaysInSection, IsNoShapeLoad, LastWalked, TurnsNoSection}
 use Rattle.rht_core.specs.Causes.{IsRaise}
 use Rattle.rht_core.specs.ResizeCauses.{IsNoKeyLoad}
+use Rattle.rht_core.proofs.Reasons.QuietSteps.{LieBehind}
 use Rattle.rht_core.proofs.Reasons.KeyLoads.{no_key-before, no_key-behind}
 
 module _ (g : Geometry) where
@@ -61,6 +62,10 @@ module _ (g : Geometry) where
   -- the operation doesn't raise the count of ports
   abbrev pub IsNoRaise : Did → Type 0
   IsNoRaise did = IsRaise g did → ⊥
+
+  -- an operation that is no addition turns no section
+  pub no_turn : (did : Did) (op : Op) → did.op ≡ op → ((place value : ℕ) → op ≢ Add place value) → TurnsNoSection g did
+  no_turn did op is none caller few adds = none (place_of g (Section caller)) 1 (sym is ∙ adds)
 
   pub record IsAside (did : Did) : Type 0 where
     pub no_shape : IsNoShapeLoad g did
@@ -185,6 +190,15 @@ module _ (g : Geometry) where
   make_loads h exponent seed (makes.TakingTop slot take) did is = run_loads take.geometry take.pages take.at did is
   make_loads h exponent seed _ did is = no_load did _ is (λ place load. cc)
 
+  -- it opens and closes no read section either
+  pub make_turns : (h : Geometry) (exponent seed : ℕ) (state : MakeAt) (did : Did)
+      → did.op ≡ make_plan_at h exponent seed state → TurnsNoSection g did
+  make_turns h exponent seed (makes.Taking slot take) did is = (run_stays take.geometry take.pages take.at did is).1
+  make_turns h exponent seed (makes.TakingTop slot take) did is = (run_stays take.geometry take.pages take.at did is).1
+  make_turns h exponent seed (makes.NextSerial slot nested page) did is = λ caller few adds.
+      let same = ap op_place (sym is ∙ adds) in omega (arith, same)
+  make_turns h exponent seed _ did is = no_turn did _ is (λ place value adds. cc)
+
   -- ---- the way to a table
 
   -- what came to a table has come to it while the current table isn't loaded again, in the same section
@@ -244,6 +258,12 @@ module _ (g : Geometry) where
     in_attempt = AllByRecursion-push (StaysInSection g) walked.last.behind did walked.in_attempt is.stays;
   }
 
+  -- no section was opened or closed since
+  pub walked-quiet : (table shape : ℕ) (steps : List Did) (walked : Walked table shape steps)
+      → AllByRecursion (TurnsNoSection g) walked.last.behind
+  walked-quiet table shape steps walked =
+      AllByRecursion-weaker (StaysInSection g) (TurnsNoSection g) (λ other stays. stays.1) walked.last.behind walked.in_attempt
+
   -- a table that was walked was come to
   pub walked-came : (table shape : ℕ) (steps : List Did) → Walked table shape steps → CameTo g table steps
   walked-came table shape steps walked =
@@ -285,14 +305,26 @@ module _ (g : Geometry) where
     pub walked : Walked table shape steps
     pub saw : Saw walked.last.behind
 
+  pub WalkedSeeing-push_in : (table shape : ℕ) (Saw After : List Did → Type 0) (steps : List Did) (did : Did) → IsAside did
+      → ((behind : List Did) → LieBehind g steps behind → Saw behind → After (behind ++ did ∷ []))
+      → WalkedSeeing table shape Saw steps → WalkedSeeing table shape After (steps ++ did ∷ [])
+  unfolding LastWalked-push Walked-push
+  WalkedSeeing-push_in table shape Saw After steps did is further seeing =
+      let last = seeing.walked.last in
+      record {
+        walked = Walked-push table shape steps did is seeing.walked;
+        saw = further last.behind (record {
+          before = last.before ++ last.at ∷ [];
+          split = last.split ∙ sym (append_assoc last.before (last.at ∷ []) last.behind);
+          quiet = walked-quiet table shape steps seeing.walked;
+        }) seeing.saw;
+      }
+
   pub WalkedSeeing-push : (table shape : ℕ) (Saw After : List Did → Type 0) (steps : List Did) (did : Did) → IsAside did
       → ((behind : List Did) → Saw behind → After (behind ++ did ∷ []))
       → WalkedSeeing table shape Saw steps → WalkedSeeing table shape After (steps ++ did ∷ [])
-  unfolding LastWalked-push Walked-push
-  WalkedSeeing-push table shape Saw After steps did is further seeing = record {
-    walked = Walked-push table shape steps did is seeing.walked;
-    saw = further seeing.walked.last.behind seeing.saw;
-  }
+  WalkedSeeing-push table shape Saw After steps did is further seeing =
+      WalkedSeeing-push_in table shape Saw After steps did is (λ behind lie saw. further behind saw) seeing
 
   -- none of them loaded a key
   abbrev pub LoadedNoKey : List Did → Type 0

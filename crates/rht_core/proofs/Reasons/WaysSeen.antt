@@ -39,31 +39,33 @@ use Rattle.rht_ghost.proofs.Theory.Knowledge.{TableMeans}
 use Rattle.rht_ghost.proofs.Theory.Knowns.{OnWay}
 use Rattle.rht_ghost.proofs.Pieces.Locates.{known_locate}
 use Rattle.rht_core.proofs.Reasons.PagesMissed.{SawGrowing, SawGrown, SeesMissing, begins-missing, missing-early, misses-page}
+use Rattle.rht_core.proofs.Tracing.UnturnedSteps.{UnturnedTo}
 use Rattle.rht_core.proofs.Tracing.TracedJobs.{Performs, StandsIn}
+use Rattle.rht_core.proofs.Reasons.QuietSteps.{unturned-behind}
 use Rattle.rht_core.proofs.Events.BucketsThere.{BucketsStay}
 use Rattle.rht_core.proofs.Reasons.UnboundSeen.{SeesNoFuture, unbound-early}
-use Rattle.rht_core.proofs.Reasons.TablesWalked.{elsewhere, WalkedSeeing, WalkedSeeing-push, LoadedNoKey, LoadedEarly, WalkedAt, CameBeyond, WalkedNext, TellsNone, same_table, locate-walked}
+use Rattle.rht_core.proofs.Reasons.TablesWalked.{elsewhere, WalkedSeeing, WalkedSeeing-push_in, LoadedNoKey, LoadedEarly, WalkedAt, CameBeyond, WalkedNext, TellsNone, same_table, locate-walked}
 use Rattle.rht_core.proofs.Reasons.KeyLoads.{no_key-behind}
 use Rattle.rht_core.proofs.Reasons.ChainsCounted.{HasCounted-none}
 use Rattle.rht_ghost.proofs.Theory.Steps.{mem}
 use Rattle.rht_core.proofs.Reasons.BindsSeen.{SawAt}
 use Rattle.rht_core.proofs.Reasons.NamedFutures.{no_slot, future_few}
 
-module _ (env : Env) (words_at : ℕ → List ℕ) (mix : ℕ → ℕ → ℕ → ℕ) (port : ℕ) where
+module _ (env : Env) (words_at : ℕ → List ℕ) (mix : ℕ → ℕ → ℕ → ℕ) (port caller : ℕ) where
   abbrev Sees : BindAt → List Did → Type 0
-  Sees = SawAt env words_at mix port
+  Sees = SawAt env words_at mix port caller
 
   -- what an operation tells that loads the future of a table as none
   abbrev SeesNone : ℕ → ℕ → Did → Type 0
-  SeesNone = SeesNoFuture env.geometry words_at mix port
+  SeesNone = SeesNoFuture env.geometry words_at mix caller port
 
   -- where the future of the table is loaded and names none, it is 0, and the port is bound nowhere or its bucket there
   early-told : (words : List ℕ) (G : Ghost) → Whole env mix (mem env mix words) G
-      → (m : LocateModel) (did : Did) → words ≡ words_at did.index → BucketsStay env mix words_at G did.index
+      → (m : LocateModel) (did : Did) → words ≡ words_at did.index → BucketsStay env mix words_at caller G did.index
       → m.table < 8
       → m.geometry ≡ env.geometry → did.old ≡ old_of words did.op → (state : LocateAt)
       → did.op ≡ locate_plan_at m.geometry m.table state
-      → TableMeans env mix G (known_locate port m.table state)
+      → TableMeans env mix caller G (known_locate port m.table state)
       → TellsNone env.geometry SeesNone m.table state did
   early-told words G whole m did now stay within same found (locates.Early shape place) plan means = λ none.
       let loads : did.op ≡ Load (place_of env.geometry (Slot m.table FutureWord)) =
@@ -75,7 +77,7 @@ module _ (env : Env) (words_at : ℕ → List ℕ) (mix : ℕ → ℕ → ℕ �
           word = record { there = (within, tt); loads = loads };
           found = no_slot did.old (omega (arith, word, few)) none;
         };
-        unbound = unbound-early env mix words G whole words_at did.index port m.table shape place None means now stay
+        unbound = unbound-early env mix words G whole caller words_at did.index port m.table shape place None means now stay
             (sym (ap slot_of word) ∙ none);
       }
   early-told words G whole m did now stay within same found _ plan means = tt
@@ -102,13 +104,13 @@ module _ (env : Env) (words_at : ℕ → List ℕ) (mix : ℕ → ℕ → ℕ �
   MissedNext table (m, Go) steps = Unit {0}
   MissedNext table (m, Done there) steps = MissedAt table there.shape there.bucket steps
 
-  module _ (words : List ℕ) (G : Ghost) (whole : Whole env mix (mem env mix words) G) (m : LocateModel)
-      (steps : List Did) (did : Did) (now : words ≡ words_at did.index)
+  module _ (few : caller < 16) (words : List ℕ) (G : Ghost) (whole : Whole env mix (mem env mix words) G) (m : LocateModel)
+      (steps : List Did) (did : Did) (now : words ≡ words_at did.index) (calm : UnturnedTo env.geometry words_at caller steps did.index)
       (found : did.old ≡ old_of words did.op) where
     -- the load of an entry that leads to none
     load_missed : (shape : ℕ) (place : PlaceModel) → place.geometry ≡ env.geometry → did.op ≡ place_plan place
         → page_of place.geometry.pages did.old ≡ None
-        → TableMeans env mix G (OnWay port m.table shape place None)
+        → TableMeans env mix caller G (OnWay port m.table shape place None)
         → WalkedSeeing env.geometry m.table shape (SeesEntry m.table shape None) steps
         → MissedAt m.table shape (buckets.Missing place None) (steps ++ did ∷ [])
     load_missed shape place same plan none on walked =
@@ -122,18 +124,19 @@ module _ (env : Env) (words_at : ℕ → List ℕ) (mix : ℕ → ℕ → ℕ �
         let order = parts_in_order env.geometry in
         let missing =
         misses-page env words_at mix words G whole port m.table shape place did on now same loads leads in
-        WalkedSeeing-push env.geometry m.table shape (SeesEntry m.table shape None) (SeesMissed m.table shape)
+        WalkedSeeing-push_in env.geometry m.table shape (SeesEntry m.table shape None) (SeesMissed m.table shape)
         steps did
         (elsewhere env.geometry did there loads
         (λ first. absurd (omega (arith, first, order.page_map, order.nodes, order.pages)))
         (λ table below same. absurd (omega (arith, below, same, order.page_map, order.nodes, order.pages))))
-        (λ behind seen. begins-missing env words_at mix port m.table shape place.entry behind did
+        (λ behind lie seen. begins-missing env words_at mix caller port m.table shape place.entry behind did lie.quiet
+        (unturned-behind env.geometry words_at caller few steps behind did.index lie calm)
         (ap is_nested (sym on.shaped.shape_is) ∙ on.to.nested)
         missing
         (no_key-behind env.geometry did there loads (omega arith)) seen) walked
 
     entry-missed : (shape : ℕ) (early : Option ℕ) (place : PlaceModel) → place.geometry ≡ env.geometry
-        → did.op ≡ place_plan place → TableMeans env mix G (OnWay port m.table shape place early)
+        → did.op ≡ place_plan place → TableMeans env mix caller G (OnWay port m.table shape place early)
         → WalkedSeeing env.geometry m.table shape (SeesEntry m.table shape early) steps
         → (page : Option ℕ) → page_of place.geometry.pages did.old ≡ page
         → let next = entry_seen place page in
@@ -149,7 +152,7 @@ module _ (env : Env) (words_at : ℕ → List ℕ) (mix : ℕ → ℕ → ℕ �
 
     located-missed : (state : LocateAt) → IsLocateAtIn env.geometry state
         → did.op ≡ locate_plan_at m.geometry m.table state
-        → TableMeans env mix G (known_locate port m.table state)
+        → TableMeans env mix caller G (known_locate port m.table state)
         → WalkedAt env.geometry SeesNone m.table state steps
         → MissedNext m.table (locate_after_at mix port m state did.old) (steps ++ did ∷ [])
     located-missed locates.Shape within plan means walked = tt
@@ -169,7 +172,7 @@ module _ (env : Env) (words_at : ℕ → List ℕ) (mix : ℕ → ℕ → ℕ �
       → MissedAt table shape bucket steps → Sees (at_bucket env port attempt table shape bucket) steps
   bucket-saw attempt table shape (buckets.At place) steps walked came missed = record {
     walked = walked.walked;
-    saw = HasCounted-none env.geometry words_at mix port table shape place walked.walked.last.behind walked.saw;
+    saw = HasCounted-none env.geometry words_at mix port table shape caller place walked.walked.last.behind walked.saw;
   }
   bucket-saw attempt table shape (buckets.Missing place (Some next)) steps walked came missed = came
   bucket-saw attempt table shape (buckets.Missing place None) steps walked came missed = missed
@@ -186,25 +189,29 @@ module _ (env : Env) (words_at : ℕ → List ℕ) (mix : ℕ → ℕ → ℕ �
 
   pub locating-saw : (owner : ℕ) (once : Bool) (attempt : Attempt) (locate : LocateModel) (steps : List Did)
       (did : Did)
-      → (does : Performs mix env (binds port owner once (at.Locating attempt locate)) did)
-      → StandsIn mix env words_at (binds port owner once (at.Locating attempt locate)) did does → Sees (at.Locating attempt locate) steps
+      → (does : Performs mix env (binds port owner once (at.Locating attempt locate)) did) → does.caller ≡ caller
+      → StandsIn mix env words_at (binds port owner once (at.Locating attempt locate)) steps did does
+      → Sees (at.Locating attempt locate) steps
       → let next = locate_after mix port locate did.old in
       Sees (located env port attempt next.0 next.1) (steps ++ did ∷ [])
-  locating-saw owner once attempt locate steps did does now saw =
+  locating-saw owner once attempt locate steps did does own now saw =
       let all = steps ++ did ∷ [] in
+      let few = subst (λ k. k < 16) own does.few in
+      let calm = subst (λ k. UnturnedTo env.geometry words_at k steps did.index) own now.unturned in
+      let stay = subst (λ k. BucketsStay env mix words_at k does.ghost did.index) own now.stay in
+      let means = subst (λ k. TableMeans env mix k does.ghost (known_locate port locate.table locate.at)) own
+      does.knows.knowing.means.table in
       let within = does.within.at_in.locate_in in
       found-saw attempt locate.table (locate_after mix port locate did.old) all
       (same_table env.geometry mix port locate locate.at did.old)
       (locate-walked env.geometry SeesNone mix port locate locate.at steps did within.at_in
       within.table_in
       does.planned
-      (early-told does.words does.ghost does.whole locate did now.now now.stay within.table_in within.geometry_same does.found
-      locate.at does.planned
-      does.knows.knowing.means.table)
+      (early-told does.words does.ghost does.whole locate did now.now stay within.table_in within.geometry_same does.found
+      locate.at does.planned means)
       saw)
-      (located-missed does.words does.ghost does.whole locate steps did now.now does.found locate.at within.at_in
-      does.planned
-      does.knows.knowing.means.table saw)
+      (located-missed few does.words does.ghost does.whole locate steps did now.now calm does.found locate.at within.at_in
+      does.planned means saw)
 
   -- ---- a page is entered
 
@@ -230,6 +237,6 @@ module _ (env : Env) (words_at : ℕ → List ℕ) (mix : ℕ → ℕ → ℕ �
       entered-saw attempt table shape (entered place page) all
       (record {
         walked = seeing.walked;
-        saw = missing-early env words_at mix port table shape
+        saw = missing-early env words_at mix caller port table shape
             (SawGrown env.geometry (state, Done (Some page))) seeing.walked.last.behind seeing.saw;
       })

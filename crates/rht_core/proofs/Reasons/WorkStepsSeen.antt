@@ -3,7 +3,7 @@
 --
 -- Where a table was due there is a future to be found, by what the caller knows; and the last table that is
 -- looked for anew is another one than the current one, which is still the one that is moved.
-use Rattle.std.proofs.Common.{◌≡◌, ◌≢◌, ℕ, ◌<◌, ◌≤◌, ◌+◌, ◌^◌, true, List, [], ◌∷◌, ◌++◌, map, append_assoc, refl, sym, ap, ◌∙◌, subst, inl, inr, arith}
+use Rattle.std.proofs.Common.{◌≡◌, ◌≢◌, ℕ, ◌<◌, ◌≤◌, ◌+◌, ◌^◌, true, List, [], ◌∷◌, ◌++◌, map, append_assoc, refl, sym, ap, ◌∙◌, subst, inl, inr, arith, Bool}
 use Rattle.std.specs.Prelude.{Some, None, ◌==◌}
 use Rattle.std.proofs.lemmas.List.{map-append}
 use Rattle.rht_words.specs.declared.op.Op.TheVariants.{Store}
@@ -14,6 +14,8 @@ use Rattle.rht_words.specs.Machines.{Performed}
 use Rattle.rht_words.specs.Operations.{op_place, old_of}
 use Rattle.rht_words.specs.Places.{CurrentTable, WorkLock, Slot, ShapeWord, FutureWord, StateWord, place_of, word_at}
 use Rattle.rht_words.specs.Shapes.{unpacked, size_of}
+use Rattle.rht_words.specs.declared.machine.Next.TheVariants.{Go, Done}
+use Rattle.rht_words.specs.declared.machine.Next.{Next}
 use Rattle.rht_words.proofs.EachElement.{Any-append_left, AllByRecursion-push}
 use Rattle.rht_chain.specs.Lock.{lock_after}
 use Rattle.rht_nest.specs.Place.{place_after}
@@ -37,27 +39,30 @@ use Rattle.rht_move.specs.declared.work.WorkAt.TheVariants as at
 use Rattle.rht_move.specs.Choice.{choice_of}
 use Rattle.rht_move.specs.LastTable.{LastTableModel, last_table_plan_at, last_table_after}
 use Rattle.rht_move.specs.LastEntry.{last_entry_after}
-use Rattle.rht_move.specs.Work.{after_at, closed, entry_table_seen, with_word, reply_of}
+use Rattle.rht_move.specs.Work.{after_at, closed, entry_table_seen, with_word, reply_of, kept}
 use Rattle.rht_core.specs.Jobs.{works}
 use Rattle.rht_core.specs.Traces.{Did, performed_of}
 use Rattle.rht_core.specs.ResizeCauses.{FindsSlotsTaken, AreSlotsTaken, AreRunsTaken}
 use Rattle.rht_core.specs.Seen.{TurnsSection}
 use Rattle.rht_core.specs.WorkCauses.{StoresOther, SawNoTableDue}
 use Rattle.rht_ghost.proofs.Theory.Ghosts.{index_at}
-use Rattle.rht_ghost.proofs.Theory.Wholes.{force-there, current-there, IsAt, one_table}
+use Rattle.rht_ghost.proofs.Theory.Wholes.{force-there, current-there, current-at, one_table}
 use Rattle.rht_ghost.proofs.Theory.Steps.{mem}
 use Rattle.rht_ghost.proofs.Theory.Knowns.{Onward, Rooted}
 use Rattle.rht_ghost.proofs.Theory.Knowledge.{WorkMeans}
 use Rattle.rht_ghost.proofs.Pieces.WorkLoads.{has_future, future_seen, nested_size}
 use Rattle.rht_core.proofs.Tracing.TracedJobs.{Performs}
 use Rattle.rht_core.proofs.Meaning.TablesInForce.{current_slot, next_apart}
-use Rattle.rht_core.proofs.Reasons.AttachedTables.{no_attach, lock-none, unmake-none}
+use Rattle.rht_core.proofs.Reasons.AttachedTables.{lock-none, unmake-none}
 use Rattle.rht_core.proofs.Reasons.MakesSeen.{runs_taken-stay}
 use Rattle.rht_core.proofs.Reasons.ChoicesMade.{HasChosen-push, Since-push}
-use Rattle.rht_core.proofs.Reasons.WorksSeen.{IsBesideTables, SawIdle, AnewSaw, HasDue-push, Stores, StoresAndCloses, SawForWork, SawToClose, SawAtWork, SawNextWork}
-use Rattle.rht_core.proofs.Reasons.TablesDue.{reads, lock-saw, opening-saw, current-saw, FindsSmall, last-saw, begun-saw, made-saw, attached-saw, unmade-saw, future-saw}
-use Rattle.rht_core.proofs.Reasons.MovesSeen.{cut-none, publish-saw, HasGoneOn-push, stored-saw, turned-saw, goes, root-saw, passed-saw, locked-saw, entry-saw, walked-saw, second_locked-saw, cut-saw, sought-saw, found-saw, HasStopped-push, unlocking-stores, unlocked-saw, retiring-saw}
+use Rattle.rht_core.proofs.Reasons.WorksSeen.{IsBesideTables, SawIdle, AnewSaw, HasDue-push, Stores, StoresAndCloses, SawForWork, SawToClose, SawAtWork, SawNextWork, SawReplaced}
+use Rattle.rht_core.proofs.Reasons.TablesDue.{reads, lock-saw, returned-saw, opening-saw, current-saw, FindsSmall, last-saw, begun-saw, made-saw, attached-saw, unmade-saw, future-saw}
+use Rattle.rht_core.proofs.Reasons.WordsKept.{KeepsSoFar, keeps-begin, keeps-go}
+use Rattle.rht_core.proofs.Reasons.MovesSeen.{cut-none, publish-saw, HasGoneOn-push, stored-saw, turned-saw, goes, root-saw, passed-saw, locked-saw, entry-saw, walked-saw, second_locked-saw, cut-saw, sought-saw, found-saw, HasStopped-push, unlocking-stores, unlocked-saw, retiring-saw, plain, lock-no_add, cut-no_add, keeping-saw}
 use Rattle.rht_core.proofs.Reasons.SlotsTaken.{unmake-own}
+use Rattle.rht_core.proofs.Reasons.RaisesSeen.{unmake-no_add}
+use Rattle.rht_reclaim.specs.KeepSections.{KeepSectionsModel, IsKeepSectionsIn, keep_sections_plan, keep_sections_plan_at, keep_sections_after}
 
 -- ---- what the caller knows
 
@@ -119,12 +124,8 @@ module _ (env : Env) (mix : ℕ → ℕ → ℕ → ℕ) where
   other_last emptying h slot did does same =
       let G = does.ghost in
       let is = does.knows.knowing.means.work.more in
-      let root : IsAt G slot = record {
-        table = G.current;
-        attached = does.whole.tables.current_in;
-        slot_is = is.next.empties.followed.root_is ∙ same;
-      } in
-      let both = one_table env mix does.whole.tables slot root is.aim_is.at in
+      let root = current-at env mix does.whole.tables slot (is.next.empties.followed.root_is ∙ same) in
+      let both = one_table root is.aim_is.at in
       let later = is.aim_is.later in
       absurd (omega (arith, both, later))
 
@@ -272,10 +273,27 @@ module _ (env : Env) (c : ℕ) (words_at : ℕ → List ℕ) where
       (turned-saw env c again steps did turns saw.0, HasGoneOn-push env c root steps did saw.1)
   closing-saw (endings.LettingGo outcome) steps did turns few saw = closed-saw outcome steps did turns few saw
 
+  -- the keeping of section words, and behind that the work lock is let go of
+  kept-next : (keep : KeepSectionsModel) (again : Bool) (next : Next (Unit {0})) (all : List Did) → SawReplaced env c again all
+      → (next ≡ Go → KeepsSoFar env.geometry keep all) → Sees (kept keep again next) all
+  kept-next keep again Go all saw so_far = (saw, so_far refl)
+  kept-next keep again (Done tt) all saw so_far = inl saw
+
+  kept-saw : (keep : KeepSectionsModel) (again : Bool) (steps : List Did) (did : Did) → IsKeepSectionsIn env.geometry keep
+      → did.op ≡ keep_sections_plan keep → SawReplaced env c again steps × KeepsSoFar env.geometry keep steps
+      → Sees (kept (keep_sections_after keep did.old).0 again (keep_sections_after keep did.old).1) (steps ++ did ∷ [])
+  kept-saw keep again steps did within is saw =
+      kept-next (keep_sections_after keep did.old).0 again (keep_sections_after keep did.old).1 (steps ++ did ∷ [])
+      (keeping-saw env c again keep.slot keep.at steps did within.slot_in within.at_in
+      (is ∙ ap (λ (h : Geometry). keep_sections_plan_at h keep.slot keep.at) within.geometry_same) saw.0)
+      (keeps-go env.geometry keep within steps did is saw.1)
+
   pub work-saw : (mix : ℕ → ℕ → ℕ → ℕ) (state : WorkAt) (steps : List Did) (did : Did)
       → (does : Performs mix env (works state) did) → does.caller ≡ c → does.words ≡ words_at did.index → Sees state steps
       → SawNextWork env c words_at (steps ++ did ∷ []) (after_at mix env state did.old)
   work-saw mix at.WorkLock steps did does own here saw = lock-saw env c words_at steps did does.planned saw
+  work-saw mix (at.Returning returns) steps did does own here saw =
+      returned-saw env c words_at returns steps did does.within does.planned saw
   work-saw mix at.Opening steps did does own here saw =
       opening-saw env c words_at steps did (subst (λ k. TurnsSection env.geometry k did) own does.planned) saw
   work-saw mix at.CurrentTable steps did does own here saw = current-saw env c words_at steps did does.planned saw
@@ -296,8 +314,8 @@ module _ (env : Env) (c : ℕ) (words_at : ℕ → List ℕ) where
       unmade-saw env c words_at root (unmake_after unmake did.old).0 (unmake_after unmake did.old).1
       (steps ++ did ∷ [])
       (HasDue-push env c root steps did
-      (no_attach env.geometry did _ does.planned
-      (unmake-none env.geometry unmake.geometry unmake.slot unmake.at)) saw.0)
+      (plain env c _ did does.planned (unmake-none env.geometry unmake.geometry unmake.slot unmake.at)
+      (unmake-no_add unmake.geometry unmake.slot unmake.at)) saw.0)
       (unmake-own env.geometry unmake.geometry unmake.slot unmake.at steps did does.planned saw.1)
   work-saw mix (at.RootFuture root due) steps did does own here saw =
       future-saw env c words_at root due (slot_of did.old) steps did (subst (λ k. k < 16) own does.few) does.within does.planned refl
@@ -306,47 +324,47 @@ module _ (env : Env) (c : ℕ) (words_at : ℕ → List ℕ) where
   work-saw mix (at.RootShape root future again) steps did does own here saw =
       let rehash : Rehash = record { root = root; future = future; shape = did.old; again = again } in
       root-saw env c words_at rehash 0 (steps ++ did ∷ [])
-      (goes env c rehash _ steps did does.planned (λ table old new l e. cc) saw)
+      (goes env c rehash _ steps did does.planned (λ table old new l e. cc) (λ place value adds. cc) saw)
   work-saw mix (at.Entry rehash number place) steps did does own here saw =
       passed-saw env c words_at rehash number (place_after place did.old).0 (place_after place did.old).1
       (steps ++ did ∷ [])
-      (goes env c rehash _ steps did does.planned (λ table old new l e. cc) saw)
+      (goes env c rehash _ steps did does.planned (λ table old new l e. cc) (λ place value adds. cc) saw)
   work-saw mix (at.Locking rehash number lock) steps did does own here saw =
       locked-saw env c words_at rehash number (lock_after lock did.old).0 (lock_after lock did.old).1
       (steps ++ did ∷ [])
       (goes env c rehash _ steps did does.planned
-      (lock-none env.geometry lock.place lock.at does.within.lock_in.place_in) saw)
+      (lock-none env.geometry lock.place lock.at does.within.lock_in.place_in) (lock-no_add lock.place lock.at) saw)
   work-saw mix (at.EntryTable emptying seek) steps did does own here saw =
       table-saw mix emptying seek.geometry seek.at steps did does here saw
   work-saw mix (at.Seed emptying last) steps did does own here saw =
-      goes env c emptying.rehash _ steps did does.planned (λ table old new l e. cc) saw
+      goes env c emptying.rehash _ steps did does.planned (λ table old new l e. cc) (λ place value adds. cc) saw
   work-saw mix (at.BucketWord emptying target) steps did does own here saw =
       entry-saw env c words_at (with_word emptying (unlocked did.old)) target
       (node_of env.geometry.nodes (head_of emptying.bucket.place (unlocked did.old))) (steps ++ did ∷ [])
-      (goes env c emptying.rehash _ steps did does.planned (λ table old new l e. cc) saw)
+      (goes env c emptying.rehash _ steps did does.planned (λ table old new l e. cc) (λ place value adds. cc) saw)
   work-saw mix (at.Walking emptying target walk) steps did does own here saw =
       walked-saw env c words_at emptying target (last_entry_after walk did.old).0
       (last_entry_after walk did.old).1 (steps ++ did ∷ [])
-      (goes env c emptying.rehash _ steps did does.planned (λ table old new l e. cc) saw)
+      (goes env c emptying.rehash _ steps did does.planned (λ table old new l e. cc) (λ place value adds. cc) saw)
   work-saw mix (at.Key emptying target entry) steps did does own here saw =
-      goes env c emptying.rehash _ steps did does.planned (λ table old new l e. cc) saw
+      goes env c emptying.rehash _ steps did does.planned (λ table old new l e. cc) (λ place value adds. cc) saw
   work-saw mix (at.LockingSecond emptying entry table lock) steps did does own here saw =
       second_locked-saw env c words_at emptying entry table (lock_after lock did.old).0
       (lock_after lock did.old).1 (steps ++ did ∷ [])
       (goes env c emptying.rehash _ steps did does.planned
-      (lock-none env.geometry lock.place lock.at does.within.lock_in.place_in) saw)
+      (lock-none env.geometry lock.place lock.at does.within.lock_in.place_in) (lock-no_add lock.place lock.at) saw)
   work-saw mix (at.EntryLink emptying entry second) steps did does own here saw =
-      goes env c emptying.rehash _ steps did does.planned (λ table old new l e. cc) saw
+      goes env c emptying.rehash _ steps did does.planned (λ table old new l e. cc) (λ place value adds. cc) saw
   work-saw mix (at.Linking emptying entry second) steps did does own here saw =
-      goes env c emptying.rehash _ steps did does.planned (λ table old new l e. cc) saw
+      goes env c emptying.rehash _ steps did does.planned (λ table old new l e. cc) (λ place value adds. cc) saw
   work-saw mix (at.CuttingOff emptying entry) steps did does own here saw =
       cut-saw env c words_at emptying entry.before (steps ++ did ∷ [])
       (goes env c emptying.rehash _ steps did does.planned
-      (cut-none env emptying.bucket.place entry.before) saw)
+      (cut-none env emptying.bucket.place entry.before) (cut-no_add env emptying.bucket.place entry.before) saw)
   work-saw mix (at.Unlocking rehash number unlock stop) steps did does own here saw =
       unlocked-saw env c words_at rehash number stop steps did
       (unlocking-stores env c unlock did does.within.unlock_in does.planned)
-      (no_attach env.geometry did _ does.planned (λ table old new l e. cc)) saw
+      (plain env c _ did does.planned (λ table old new l e. cc) (λ place value adds. cc)) saw
   work-saw mix (at.Publishing rehash) steps did does own here saw = (
     publish-saw env c rehash steps did does.within.tables_in.future_in does.planned saw,
     record {
@@ -364,9 +382,12 @@ module _ (env : Env) (c : ℕ) (words_at : ℕ → List ℕ) where
   work-saw mix (at.NewFuture rehash) steps did does own here saw =
       retiring-saw env c words_at rehash (slot_of did.old) steps did does.within.tables_in.future_in
       does.planned refl saw
-  work-saw mix (at.Retiring root again) steps did does own here saw =
-      inl
-      (stored-saw env c again (Slot root StateWord) 2 steps did (does.within, tt) (λ e. cc) does.planned saw.0)
+  work-saw mix (at.Retiring root again) steps did does own here saw = (
+    stored-saw env c again (Slot root StateWord) 2 steps did (does.within, tt) (λ e. cc) does.planned saw.0,
+    keeps-begin env.geometry root steps did does.planned,
+  )
+  work-saw mix (at.KeepingSections keep again) steps did does own here saw =
+      kept-saw keep again steps did does.within does.planned saw
   work-saw mix (at.Closing ending) steps did does own here saw =
       closing-saw ending steps did (subst (λ k. TurnsSection env.geometry k did) own does.planned) (subst (λ k. k < 16) own does.few) saw
   work-saw mix (at.LettingGo outcome) steps did does own here saw = let_go-saw outcome steps did does.planned saw

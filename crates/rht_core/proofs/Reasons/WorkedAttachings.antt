@@ -3,8 +3,10 @@
 -- of 64; a bind that makes another table the current one; a look-up that enters a page; a resizing that does so, in the table from which it has gone on, or in one in force; a bind that enters one
 -- where no way to its port's bucket ends; a look-up that takes a slot; a bind that frees a slot which it never took; a look-up that takes the
 -- work lock; a resizing that gives it back and never took it; one that leaves another value there than 0 or 1; and one that retires a table
--- in whose place it made no other one the current one.
-use Rattle.std.proofs.Common.{◌≡◌, ◌≢◌, ◌⊎◌, ℕ, ◌*◌, ◌<◌, Bool, List, ◌∷◌, refl, sym, ap, ◌∙◌, subst, inl, inr, arith, Some}
+-- in whose place it made no other one the current one. Further a resizing that frees the slot of a retired table of which it didn't load the
+-- state; a look-up that keeps a section word; a resizing that keeps one which it didn't load; and whoever clears an entry of a table in force
+-- that leads to a page.
+use Rattle.std.proofs.Common.{◌≡◌, ◌≢◌, ◌⊎◌, ℕ, ◌*◌, ◌<◌, Bool, List, [], ◌∷◌, ◌++◌, refl, sym, ap, ◌∙◌, subst, inl, inr, arith, Some}
 use Rattle.std.specs.List.{AllByRecursion}
 use Rattle.std.proofs.lemmas.Bool.{cond_both}
 use Rattle.rht_words.specs.declared.env.Env.{Env}
@@ -12,15 +14,16 @@ use Rattle.rht_words.specs.declared.geometry.Geometry.{Geometry}
 use Rattle.rht_words.specs.declared.op.Op.{Op}
 use Rattle.rht_words.specs.declared.op.Op.TheVariants.{Load, Store, Exchange}
 use Rattle.rht_words.specs.Operations.{op_place, word_after}
-use Rattle.rht_words.specs.Links.{table_of, future_of, entry_of}
+use Rattle.rht_words.specs.Links.{table_of, future_of, entry_of, page_of}
 use Rattle.rht_words.specs.Members.{In}
-use Rattle.rht_words.specs.Places.{CurrentTable, WorkLock, Slot, ShapeWord, SeedWord, FutureWord, StateWord, PageWord, place_of, word_at}
+use Rattle.rht_words.specs.Places.{CurrentTable, WorkLock, Slot, ShapeWord, SeedWord, FutureWord, StateWord, LoadedSection, Section, PageWord, place_of, word_at}
 use Rattle.rht_words.specs.Shapes.{unpacked, size_of}
 use Rattle.rht_words.proofs.EachElement.{AllByRecursion-cut, AllByRecursion-push}
 use Rattle.rht_policy.specs.Thresholds.{is_above_75}
 use Rattle.rht_policy.specs.Mix.{bucket_of}
 use Rattle.rht_nest.specs.Place.{nested_place, missing_at}
-use Rattle.rht_stands.specs.StandsFor.{in_force, page_word}
+use Rattle.rht_stands.specs.StandsFor.{in_force, page_word, shape_of}
+use Rattle.rht_core.specs.TablePages.{IsEntryOfTable}
 use Rattle.rht_core.specs.Refused.{IsWaysEnd, HasTaken}
 use Rattle.rht_model.specs.declared.history.Call.{Call}
 use Rattle.rht_model.specs.declared.history.Call.TheVariants.{Bind, Find, Work}
@@ -31,7 +34,7 @@ use Rattle.rht_nest.specs.Tables.{pages_of_shape}
 use Rattle.rht_arena.specs.RunLaws.{TakesPage}
 use Rattle.rht_core.specs.Seen.{CameTo, words_before}
 use Rattle.rht_core.specs.ResizeCauses.{wanted_size}
-use Rattle.rht_core.specs.Attached.{ChangesTable, AttachesFull, AttachesRightly, ChangesRightly, ChangesMissing, ChangesWorkLock}
+use Rattle.rht_core.specs.Attached.{ChangesTable, ChangesKept, AttachesFull, AttachesRightly, ChangesRightly, ChangesMissing, ChangesWorkLock}
 use Rattle.rht_core.specs.WorkCauses.{TakesWorkLock, StoresCurrent}
 
 -- where it loads the shape of a table, that is one of so many buckets
@@ -170,7 +173,8 @@ module _ (M : Type 0) (mix : ℕ → ℕ → ℕ → ℕ) (env : Env) (events : 
       elim (right.states slot (record { slot_in = low; there = refl; other = λ same. cc })) [
         | inl taken ↦ taken.0
         | inr (inl given) ↦ let same = given.1 in absurd (cc)
-        | inr (inr retired) ↦ let same = retired.0 in absurd (cc)
+        | inr (inr (inl retired)) ↦ let same = retired.0 in absurd (cc)
+        | inr (inr (inr returned)) ↦ let same = returned.0 in absurd (cc)
       ]
 
   -- a bind that frees a retired one, of which it took none
@@ -185,7 +189,8 @@ module _ (M : Type 0) (mix : ℕ → ℕ → ℕ → ℕ) (env : Env) (events : 
             let parts = AllByRecursion-cut (λ did. ¬ TakesSlot g slot (performed_of did)) taken.before (taken.at ∷ taken.behind)
             (subst (AllByRecursion (λ did. ¬ TakesSlot g slot (performed_of did))) taken.split none) in
             parts.1.0 taken.takes
-        | inr (inr retired) ↦ let same = retired.0 in absurd (cc)
+        | inr (inr (inl retired)) ↦ let same = retired.0 in absurd (cc)
+        | inr (inr (inr returned)) ↦ let same = returned.0 in absurd (cc)
       ]
 
   -- a resizing that retires a table which it never replaced, as a second one that it took and attached nowhere
@@ -196,12 +201,70 @@ module _ (M : Type 0) (mix : ℕ → ℕ → ℕ → ℕ) (env : Env) (events : 
       elim (right.states slot (record { slot_in = low; there = refl; other = λ same. cc })) [
         | inl taken ↦ let same = taken.1.taking in absurd (cc)
         | inr (inl given) ↦ let same = given.1 in absurd (cc)
-        | inr (inr retired) ↦
+        | inr (inr (inr returned)) ↦ let same = returned.1.frees.stores in absurd (cc)
+        | inr (inr (inl retired)) ↦
             let gone = retired.1.gone_on in
             (AllByRecursion-cut (λ did. (next : ℕ) → StoresCurrent g next did → table_of did.old ≢ slot) gone.before (gone.at ∷ gone.behind)
             (subst (AllByRecursion (λ did. (next : ℕ) → StoresCurrent g next did → table_of did.old ≢ slot)) gone.split none)).1.0 gone.next
             gone.stores gone.from
       ]
+
+  -- a resizing that frees a retired one of which it loaded no state, and took none
+  pub resizing_frees_unseen : (slot : ℕ) → slot < 8 → AllByRecursion (λ did. ¬ TakesSlot g slot (performed_of did)) before
+      → AllByRecursion (λ did. did.op ≢ Load (place_of g (Slot slot StateWord))) before
+      → Rightly Work (record { index = index; op = Store (place_of g (Slot slot StateWord)) 0; old = 2 }) → ⊥
+  resizing_frees_unseen slot low untaken unseen right =
+      elim (right.states slot (record { slot_in = low; there = refl; other = λ same. cc })) [
+        | inl taken ↦ let same = taken.1.taking in absurd (cc)
+        | inr (inl given) ↦
+            let taken = given.0.taken in
+            (AllByRecursion-cut (λ did. ¬ TakesSlot g slot (performed_of did)) taken.before (taken.at ∷ taken.behind)
+            (subst (AllByRecursion (λ did. ¬ TakesSlot g slot (performed_of did))) taken.split untaken)).1.0 taken.takes
+        | inr (inr (inl retired)) ↦ let same = retired.1.stores in absurd (cc)
+        | inr (inr (inr returned)) ↦
+            let of = returned.1 in
+            (AllByRecursion-cut (λ did. did.op ≢ Load (place_of g (Slot slot StateWord))) of.sooner (of.state ∷ of.since)
+            (subst (AllByRecursion (λ did. did.op ≢ Load (place_of g (Slot slot StateWord)))) of.split unseen)).1.0 of.found.word.loads
+      ]
+
+  -- ---- section words that are kept
+
+  module _ (slot caller word old : ℕ) (low : slot < 8) (few : caller < 16) (other : word ≢ old) where
+    abbrev keeps : Did
+    keeps = record { index = index; op = Store (place_of g (Slot slot (LoadedSection caller))) word; old = old }
+
+    changes_kept : ChangesKept g slot caller keeps
+    changes_kept = record { slot_in = low; caller_in = few; there = refl; other = other }
+
+    -- a look-up that keeps one
+    pub look_up_keeps : (port : ℕ) → Rightly (Find port) keeps → ⊥
+    look_up_keeps port right = let works = (right.kept slot caller changes_kept).0 in absurd (cc)
+
+    -- a resizing that keeps one which it didn't load
+    pub resizing_keeps_unloaded : AllByRecursion (λ did. did.op ≢ Load (place_of g (Section caller))) before → Rightly Work keeps → ⊥
+    resizing_keeps_unloaded none right =
+        let of = (right.kept slot caller changes_kept).1 in
+        let behind = (AllByRecursion-cut (λ did. did.op ≢ Load (place_of g (Section caller))) of.sooner (of.at ∷ (of.since ++ of.load ∷ []))
+        (subst (AllByRecursion (λ did. did.op ≢ Load (place_of g (Section caller)))) of.split none)).1.1 in
+        (AllByRecursion-cut (λ did. did.op ≢ Load (place_of g (Section caller))) of.since (of.load ∷ []) behind).1.0 of.loads.loads
+
+  -- ---- an entry that leads to a page
+
+  -- whoever clears one of a table in force
+  pub clears_leading : (call : Call) (entry page slot : ℕ) → entry < 64 * g.pages → slot < 8 → In slot (in_force g words)
+      → IsEntryOfTable g words (shape_of g words slot) entry → page_of g.pages (word_at g words (PageWord entry)) ≡ Some page
+      → Rightly call (record { index = index; op = Store (place_of g (PageWord entry)) 0; old = entry_of page }) → ⊥
+  clears_leading call entry page slot entry_in low stands of leads right = right.leading entry (record {
+    index_in = entry_in;
+    table = slot;
+    table_in = low;
+    stands = inl stands;
+    entry = of;
+    page = page;
+    leads = leads;
+    there = refl;
+    other = λ same. absurd (omega (arith, same));
+  })
 
   -- ---- the work lock
 

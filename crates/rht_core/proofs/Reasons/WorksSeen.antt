@@ -35,19 +35,32 @@ use Rattle.rht_move.specs.declared.work.WorkAt.{WorkAt}
 use Rattle.rht_move.specs.declared.work.WorkAt.TheVariants as at
 use Rattle.rht_move.specs.Work.{reply_of}
 use Rattle.rht_core.specs.Traces.{Did, performed_of}
-use Rattle.rht_core.specs.Seen.{LoadsWord, TurnsSection}
+use Rattle.rht_core.specs.Seen.{LoadsWord, TurnsSection, TurnsNoSection, AnyInSection}
 use Rattle.rht_core.specs.ResizeCauses.{Loaded, Attaches}
 use Rattle.rht_core.specs.WorkCauses.{SawElsewhere, ReadsFuture, AreFuturesRead, HasChosen, HasPublished, IsSized, HasAttached, SawNoTableDue, StoresOther, HasTried, HasTriedIfNeeded}
 use Rattle.rht_core.proofs.Tracing.LoneCalls.{Spares}
 use Rattle.rht_core.proofs.Reasons.AttachedTables.{IsNoAttach}
 use Rattle.rht_core.proofs.Reasons.MakesSeen.{SawMade}
-use Rattle.rht_core.proofs.Reasons.ChoicesMade.{AreFuturesAt, Chosen, HasLock, HasOpened, SeekSaw, Measures, Since, SinceSome, SinceSome-push}
+use Rattle.rht_core.proofs.Reasons.ChoicesMade.{AreFuturesAt, Chosen, Returns, HasReturned, HasOpened, SeekSaw, Measures, Since, SinceSome, SinceSome-push}
 use Rattle.rht_core.specs.Refused.{StoresLast}
 use Rattle.rht_core.specs.Attached.{HasTakenSlot, StoresDrawn, HasGoneOn}
+use Rattle.rht_core.proofs.Reasons.WordsKept.{KeepsSoFar}
 use Rattle.rht_core.proofs.Reasons.SlotsTaken.{Owns, slot_taken-behind}
 use Rattle.rht_words.specs.Shapes.{unpacked, size_of}
 
 module _ (env : Env) (c : ℕ) where
+  -- no operation opened or closed a read section
+  abbrev pub StaysInside : List Did → Type 0
+  StaysInside steps = AllByRecursion (TurnsNoSection env.geometry) steps
+
+  -- an operation attaches no table, and neither opens nor closes a read section
+  pub record IsPlain (did : Did) : Type 0 where
+    pub attaches : IsNoAttach env.geometry did
+    pub turns : TurnsNoSection env.geometry did
+
+  pub StaysInside-push : (steps : List Did) (did : Did) → TurnsNoSection env.geometry did → StaysInside steps → StaysInside (steps ++ did ∷ [])
+  StaysInside-push steps did none inside = AllByRecursion-push (TurnsNoSection env.geometry) steps did inside none
+
   -- ---- what has become of what was chosen
 
   -- no operation attached a table behind that of this slot
@@ -65,6 +78,7 @@ module _ (env : Env) (c : ℕ) where
   pub record IsMaking (wanted : Wanted) (exponent : ℕ) (next : MakeAt × Next (Option (ℕ × ℕ))) (of : Chosen)
       (behind : List Did) : Type 0 where
     pub wants : Wants wanted of
+    pub inside : StaysInside behind
     pub none : NoneAttached of.last behind
     pub made : SawMade env.geometry exponent false next (map performed_of behind)
     pub own : Owns env.geometry exponent next behind
@@ -94,6 +108,7 @@ module _ (env : Env) (c : ℕ) where
 
   pub record IsDue (root : ℕ) (due : Due) (choice : Choice) (of : Chosen) (behind : List Did) : Type 0 where
     pub root_same : of.root ≡ root
+    pub inside : StaysInside behind
     pub saw : DueSaw due of.last choice behind
     pub tried : IsTried choice of behind
     pub at_once : due ≡ dues.Nothing → behind ≡ []
@@ -105,6 +120,7 @@ module _ (env : Env) (c : ℕ) where
   pub record IsMade (root last slot shape size : ℕ) (of : Chosen) (behind : List Did) : Type 0 where
     pub root_same : of.root ≡ root
     pub last_same : of.last ≡ last
+    pub inside : StaysInside behind
     pub none : NoneAttached of.last behind
     pub sized : IsSized env.geometry slot size (map performed_of behind)
     pub taken : HasTakenSlot env.geometry slot behind
@@ -121,8 +137,8 @@ module _ (env : Env) (c : ℕ) where
   to_attach-taken root last slot shape steps (size, since) =
       let chose = since.chose in
       subst (HasTakenSlot env.geometry slot) (sym chose.split)
-      (slot_taken-behind env.geometry slot (chose.lock ∷ chose.opening ∷ chose.current ∷ chose.futures) chose.shape
-      (chose.count ∷ chose.behind)
+      (slot_taken-behind env.geometry slot
+      ((chose.lock ∷ chose.sooner) ++ (chose.opening ∷ chose.current ∷ chose.futures)) chose.shape (chose.count ∷ chose.behind)
       (slot_taken-behind env.geometry slot [] chose.count chose.behind since.so.taken))
 
   -- whether it is to say that the table that was due isn't attached
@@ -134,6 +150,7 @@ module _ (env : Env) (c : ℕ) where
   pub record IsMoving (root future : ℕ) (again : Bool) (choice : Choice) (of : Chosen)
       (behind : List Did) : Type 0 where
     pub root_same : of.root ≡ root
+    pub inside : StaysInside behind
     pub followed : Any (ReadsFuture env.geometry of.root (Some future)) behind
     pub apart : of.root ≢ future
     pub says : SaysMissing again of.last choice behind
@@ -147,6 +164,7 @@ module _ (env : Env) (c : ℕ) where
     pub table : ℕ
     pub later : List Did
     pub published : HasPublished env.geometry table later behind
+    pub inside : StaysInside published.before
     pub followed : Any (ReadsFuture env.geometry of.root (Some table)) published.before
     pub another : of.root ≢ table
     pub leave : AllByRecursion (Spares (place_of env.geometry CurrentTable)) later
@@ -171,9 +189,9 @@ module _ (env : Env) (c : ℕ) where
   -- and then it has looked for a further one: it found one, or says what it was to say
   pub record IsReplaced (again : Bool) (choice : Choice) (of : Chosen) (behind : List Did) : Type 0 where
     pub published : IsPublished of behind
-    pub looked : Any (LoadsWord env.geometry (Slot published.table FutureWord)) published.later
+    pub looked : AnyInSection env.geometry (LoadsWord env.geometry (Slot published.table FutureWord)) published.later
     pub says :
-        ((again ≡ true) × Any (FindsFurther published.table) published.later)
+        ((again ≡ true) × AnyInSection env.geometry (FindsFurther published.table) published.later)
         ⊎ (SaysMissing again of.last choice behind
         × AllByRecursion (FindsNoneFurther published.table) published.later)
 
@@ -275,32 +293,34 @@ module _ (env : Env) (c : ℕ) where
   IsTried-push choice of behind did tried size is stays =
       HasTried-push of.last size behind did (tried size is stays)
 
-  pub HasDue-push : (root : ℕ) (steps : List Did) (did : Did) → IsNoAttach env.geometry did
+  pub HasDue-push : (root : ℕ) (steps : List Did) (did : Did) → IsPlain did
       → HasDue root dues.Later steps → HasDue root dues.Later (steps ++ did ∷ [])
-  HasDue-push root steps did quiet has = SinceSome-push env c steps did has (λ choice of behind due. record {
+  HasDue-push root steps did plain has = SinceSome-push env c steps did has (λ choice of behind due. record {
     root_same = due.root_same;
-    saw = IsMissing-push of.last choice behind did quiet due.saw;
+    inside = StaysInside-push behind did plain.turns due.inside;
+    saw = IsMissing-push of.last choice behind did plain.attaches due.saw;
     tried = IsTried-push choice of behind did due.tried;
     at_once = λ e. absurd (cc);
   })
 
   pub IsMoving-push : (root future : ℕ) (again : Bool) (choice : Choice) (of : Chosen) (behind : List Did)
       (did : Did)
-      → IsNoAttach env.geometry did → IsMoving root future again choice of behind
+      → IsPlain did → IsMoving root future again choice of behind
       → IsMoving root future again choice of (behind ++ did ∷ [])
-  IsMoving-push root future again choice of behind did quiet moving = record {
+  IsMoving-push root future again choice of behind did plain moving = record {
     root_same = moving.root_same;
+    inside = StaysInside-push behind did plain.turns moving.inside;
     followed = Any-append_left _ behind (did ∷ []) moving.followed;
     apart = moving.apart;
-    says = SaysMissing-push again of.last choice behind did quiet moving.says;
+    says = SaysMissing-push again of.last choice behind did plain.attaches moving.says;
     tried = IsTried-push choice of behind did moving.tried;
   }
 
   pub Moves-push : (root future : ℕ) (again : Bool) (steps : List Did) (did : Did)
-      → IsNoAttach env.geometry did
+      → IsPlain did
       → Moves root future again steps → Moves root future again (steps ++ did ∷ [])
-  Moves-push root future again steps did quiet moves = SinceSome-push env c steps did moves
-      (λ choice of behind moving. IsMoving-push root future again choice of behind did quiet moving)
+  Moves-push root future again steps did plain moves = SinceSome-push env c steps did moves
+      (λ choice of behind moving. IsMoving-push root future again choice of behind did plain moving)
 
 -- where these are the words before the event with each number
 module _ (env : Env) (c : ℕ) (words_at : ℕ → List ℕ) where
@@ -330,6 +350,7 @@ module _ (env : Env) (c : ℕ) (words_at : ℕ → List ℕ) where
     pub shape : Did
     pub behind : List Did
     pub split : chose.behind ≡ (before ++ futures) ++ shape ∷ behind
+    pub inside : AllByRecursion (TurnsNoSection env.geometry) before
     pub futures_read : AreFuturesRead env.geometry chose.root last futures
     pub apart : chose.root ≢ last
     pub shape_read : Loaded env.geometry (Slot last ShapeWord) shape.old shape
@@ -357,7 +378,8 @@ module _ (env : Env) (c : ℕ) (words_at : ℕ → List ℕ) where
 
   abbrev pub SawAtWork : WorkAt → List Did → Type 0
   SawAtWork at.WorkLock steps = steps ≡ []
-  SawAtWork at.Opening steps = HasLock env c steps
+  SawAtWork (at.Returning returns) steps = Returns env c returns steps
+  SawAtWork at.Opening steps = HasReturned env c steps
   SawAtWork at.CurrentTable steps = HasOpened env c steps
   SawAtWork (at.LastTable root seek) steps = SeekSaw env c root seek.at steps
   SawAtWork (at.Count root last) steps = Measures env c root last steps
@@ -383,6 +405,7 @@ module _ (env : Env) (c : ℕ) (words_at : ℕ → List ℕ) where
   SawAtWork (at.Closing (endings.Retiring root again)) steps = SawReplaced env c again steps × HasGoneOn env.geometry root steps
   SawAtWork (at.Closing (endings.LettingGo outcome)) steps = SawToClose outcome steps
   SawAtWork (at.Retiring root again) steps = SawReplaced env c again steps × HasGoneOn env.geometry root steps
+  SawAtWork (at.KeepingSections keep again) steps = SawReplaced env c again steps × KeepsSoFar env.geometry keep steps
   SawAtWork (at.LettingGo outcome) steps = SawForWork (reply_of outcome) steps
 
   abbrev pub SawNextWork : List Did → WorkAt × Next Reply → Type 0

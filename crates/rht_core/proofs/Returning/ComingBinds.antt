@@ -196,7 +196,7 @@ module _ (env : Env) (mix : ℕ → ℕ → ℕ → ℕ) (port owner : ℕ) (wor
   -- ---- each operation
 
   pub bind_comes : (c : ℕ) (once : Bool) (state : BindAt) → IsBindAtIn env state
-      → TableMeans env mix G (known_of_bind port owner state).table
+      → TableMeans env mix c G (known_of_bind port owner state).table
       → To (standing_of_bind state) (after_at mix env port once state (old_of words (plan_at env c state))).0
   bind_comes c once (at.Filling new) within known =
       let r = new_node_after new (old_of words (new_node_plan new)) in nowhere _ _ (bind_filled r.0 r.1)

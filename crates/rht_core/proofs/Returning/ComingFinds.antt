@@ -75,7 +75,7 @@ module _ (env : Env) (mix : ℕ → ℕ → ℕ → ℕ) (port : ℕ) (seen : �
         slot = head.table;
         there = at_table head.table (inl refl);
         table = τ;
-        is_there = at-there env mix whole.tables head.table home_is.of;
+        is_there = at-there home_is.of;
         slot_is = home_is.of.slot_is;
         number = hash_in env mix G port τ;
         below = hash-below env mix (mem env mix words) G whole port τ;

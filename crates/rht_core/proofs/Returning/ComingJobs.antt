@@ -40,6 +40,8 @@ use Rattle.rht_release.specs.RebindStanding.{standing_of_rebind}
 use Rattle.rht_release.specs.declared.rebind.RebindEnd.TheVariants as ends
 use Rattle.rht_release.specs.declared.rebind.RebindAt.{RebindAt}
 use Rattle.rht_release.specs.declared.rebind.RebindAt.TheVariants as rebinding
+use Rattle.rht_reclaim.specs.KeepSections.{keep_sections_after}
+use Rattle.rht_reclaim.specs.ReturnTables.{return_tables_after}
 use Rattle.rht_move.specs.Work as work
 use Rattle.rht_move.specs.WorkHeld.{held_of_work}
 use Rattle.rht_move.specs.WorkStanding.{standing_of_work}
@@ -69,7 +71,7 @@ use Rattle.rht_core.proofs.Returning.WalkWays.{walk_comes}
 use Rattle.rht_core.proofs.Returning.ComingFinds.{find_comes}
 use Rattle.rht_core.proofs.Returning.ComingBinds.{bind_comes, bind_filled}
 use Rattle.rht_core.proofs.Returning.ComingReleases.{all_comes, release_comes, rebind_comes, rebind_filled}
-use Rattle.rht_core.proofs.Returning.ComingWorks.{work_comes, locked-nowhere}
+use Rattle.rht_core.proofs.Returning.ComingWorks.{work_comes, locked-nowhere, returned-nowhere, kept-nowhere}
 
 -- what is so of where a machine stands next, and of nowhere, is so of what is left of its job
 told-stands : {S A : Type 0} (job : S → Job) (ending : A → Ending) (P : Standing → Type 0) (r : S × Next A)
@@ -139,9 +141,13 @@ rebind_outside mix env port owner _ out = absurd (cc)
 work_outside : (mix : ℕ → ℕ → ℕ → ℕ) (env : Env) (state : WorkAt) → (held_of_work state).section ≡ false
     → (standing_of_work state ≡ stands_nowhere)
     × ((old : ℕ) → standing_of_work (work.after_at mix env state old).0 ≡ stands_nowhere)
-work_outside mix env working.WorkLock out = (refl, λ old. locked-nowhere old)
+work_outside mix env working.WorkLock out = (refl, λ old. locked-nowhere env.geometry old)
+work_outside mix env (working.Returning returns) out =
+    (refl, λ old. returned-nowhere (return_tables_after returns old).0 (return_tables_after returns old).1)
 work_outside mix env working.Opening out = (refl, λ old. refl)
 work_outside mix env (working.Retiring root again) out = (refl, λ old. refl)
+work_outside mix env (working.KeepingSections keep again) out =
+    (refl, λ old. kept-nowhere (keep_sections_after keep old).0 again (keep_sections_after keep old).1)
 work_outside mix env (working.LettingGo outcome) out = (refl, λ old. refl)
 work_outside mix env _ out = absurd (cc)
 

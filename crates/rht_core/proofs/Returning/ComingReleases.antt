@@ -82,7 +82,7 @@ rebind_filled new (Done (Some node)) = refl
 module _ (env : Env) (mix : ℕ → ℕ → ℕ → ℕ) (port owner : ℕ) (words : List ℕ) (G : Ghost) (whole : Whole env mix (mem env mix words) G) (c : ℕ) where
   -- a state of its way, as it is known
   abbrev pub KnowsWay : SeekModel → Type 0
-  KnowsWay seek = (own : Option KnownNode) × TableMeans env mix G (known_of_seek port own seek.at).table
+  KnowsWay seek = (own : Option KnownNode) × TableMeans env mix c G (known_of_seek port own seek.at).table
 
   -- ---- a listing
 
@@ -111,7 +111,7 @@ module _ (env : Env) (mix : ℕ → ℕ → ℕ → ℕ) (port owner : ℕ) (wor
   all_comes alls.Opening within known = to_nowhere _ _ _
   all_comes (alls.Seeking seek) within known =
       let r = seek_after mix port seek (old_of words (seek_plan seek)) in
-      all_sought (standing_of_seek seek.at) r.0 r.1 (seek_comes env mix port (known seek refl).0 words G whole seek within (known seek refl).1)
+      all_sought (standing_of_seek seek.at) r.0 r.1 (seek_comes env mix c port (known seek refl).0 words G whole seek within (known seek refl).1)
   all_comes (alls.Owner found node) within known = stays env.geometry words (at_found found (node ∷ []))
   all_comes (alls.ListLink found node) within known =
       let from = at_found found (node ∷ []) in
@@ -173,7 +173,7 @@ module _ (env : Env) (mix : ℕ → ℕ → ℕ → ℕ) (port owner : ℕ) (wor
   release_comes releases.Opening within known = to_nowhere _ _ _
   release_comes (releases.Seeking seek) within known =
       let r = seek_after mix port seek (old_of words (seek_plan seek)) in
-      release_sought (standing_of_seek seek.at) r.0 r.1 (seek_comes env mix port (known seek refl).0 words G whole seek within (known seek refl).1)
+      release_sought (standing_of_seek seek.at) r.0 r.1 (seek_comes env mix c port (known seek refl).0 words G whole seek within (known seek refl).1)
   release_comes (releases.Owner found node before) within known =
       let from = at_found found (node ∷ if_one before) in
       cond_both (owner_of (old_of words (release.plan_at env c (releases.Owner found node before))) == owner) _ _
@@ -226,7 +226,7 @@ module _ (env : Env) (mix : ℕ → ℕ → ℕ → ℕ) (port owner : ℕ) (wor
   rebind_comes (rebinds.Opening node) within known = to_nowhere _ _ _
   rebind_comes (rebinds.Seeking node seek) within known =
       let r = seek_after mix port seek (old_of words (seek_plan seek)) in
-      rebind_sought (standing_of_seek seek.at) node r.0 r.1 (seek_comes env mix port (known node seek refl).0 words G whole seek within.seek_in (known node seek refl).1)
+      rebind_sought (standing_of_seek seek.at) node r.0 r.1 (seek_comes env mix c port (known node seek refl).0 words G whole seek within.seek_in (known node seek refl).1)
   rebind_comes (rebinds.Owner node found) within known =
       let from = at_found found [] in
       cond_both (owner_of (old_of words (rebind.plan_at env c (rebinds.Owner node found))) == owner) _ _

@@ -34,7 +34,7 @@ seek_stands (state, Go) = standing_of_seek state
 seek_stands (state, Done None) = stands_nowhere
 seek_stands (state, Done (Some found)) = at_found found []
 
-module _ (env : Env) (mix : ℕ → ℕ → ℕ → ℕ) (port : ℕ) (own : Option KnownNode) (words : List ℕ) (G : Ghost) (whole : Whole env mix (mem env mix words) G) where
+module _ (env : Env) (mix : ℕ → ℕ → ℕ → ℕ) (c port : ℕ) (own : Option KnownNode) (words : List ℕ) (G : Ghost) (whole : Whole env mix (mem env mix words) G) where
   module _ (from : Standing) where
     abbrev To : SeekAt × Next (Option FoundPort) → Type 0
     To next = Comes env.geometry words from (seek_stands next)
@@ -74,7 +74,7 @@ module _ (env : Env) (mix : ℕ → ℕ → ℕ → ℕ) (port : ℕ) (own : Opt
     at_left table unlock (Some next) there = to_tables _ _ _ _ there
 
   seek_comes_at : (state : SeekAt) → IsSeekAtIn env.geometry state
-      → TableMeans env mix G (known_of_seek port own state).table
+      → TableMeans env mix c G (known_of_seek port own state).table
       → To (standing_of_seek state)
       (seek_after_at mix env.geometry port state (old_of words (seek_plan_at env.geometry state)))
   seek_comes_at at.CurrentTable within known = to_tables _ _ _ _ (at_current refl, tt)
@@ -95,7 +95,7 @@ module _ (env : Env) (mix : ℕ → ℕ → ℕ → ℕ) (port : ℕ) (own : Opt
       let from = standing_of_seek (at.Leaving table unlock future) in
       at_left from table unlock future (all_tables env.geometry words from).1
 
-  pub seek_comes : (m : SeekModel) → IsSeekIn env.geometry m → TableMeans env mix G (known_of_seek port own m.at).table
+  pub seek_comes : (m : SeekModel) → IsSeekIn env.geometry m → TableMeans env mix c G (known_of_seek port own m.at).table
       → let r = seek_after mix port m (old_of words (seek_plan m)) in
       Comes env.geometry words (standing_of_seek m.at) (seek_stands (r.0.at, r.1))
   seek_comes m within known =

@@ -82,13 +82,13 @@ module _ (g : Geometry) (words : List ℕ) (at : Standing) (mix : ℕ → ℕ �
 
 -- of a port's bucket it is known where it is
 module _ (env : Env) (mix : ℕ → ℕ → ℕ → ℕ) (words : List ℕ) (G : Ghost) (whole : Whole env mix (mem env mix words) G) (at : Standing) where
-  pub home_there : (port slot : ℕ) (shape : Option ℕ) (place : ℕ) → ReachesTable env.geometry words at slot
-      → IsAtHome env mix G port slot shape place → IsBucketThere env mix words G whole at (word_index env mix place)
+  pub home_there : {c : ℕ} (port slot : ℕ) (shape : Option ℕ) (place : ℕ) → ReachesTable env.geometry words at slot
+      → IsAtHome env mix c G port slot shape place → IsBucketThere env mix words G whole at (word_index env mix place)
   home_there port slot shape place there is = record {
     slot = slot;
     there = there;
     table = is.passing.at.table;
-    is_there = at-there env mix whole.tables slot is.passing.at;
+    is_there = at-there is.passing.at;
     slot_is = is.passing.at.slot_is;
     number = hash_in env mix G port is.passing.at.table;
     below = hash-below env mix (mem env mix words) G whole port is.passing.at.table;

@@ -3,6 +3,7 @@ use Rattle.std.proofs.Common.{◌≡◌, ℕ, ◌+◌, List, [], ◌∷◌, Opti
 use Rattle.std.specs.Prelude.{◌==◌, ◌||◌, if◌then◌else◌}
 use Rattle.std.proofs.lemmas.Bool.{cond_both}
 use Rattle.rht_words.specs.declared.env.Env.{Env}
+use Rattle.rht_words.specs.declared.geometry.Geometry.{Geometry}
 use Rattle.rht_words.specs.declared.machine.Next.{Next}
 use Rattle.rht_words.specs.declared.machine.Next.TheVariants.{Go, Done}
 use Rattle.rht_words.specs.Links.{head_of, marker_of, node_of, slot_of, unlocked}
@@ -17,10 +18,12 @@ use Rattle.rht_nest.specs.Tables.{is_nested}
 use Rattle.rht_nest.specs.Unmake.{UnmakeModel, unmake_plan, unmake_after}
 use Rattle.rht_nest.specs.declared.place.Bucket.{Bucket}
 use Rattle.rht_nest.specs.declared.place.Bucket.TheVariants.{At, Absent}
+use Rattle.rht_reclaim.specs.KeepSections.{KeepSectionsModel, keep_sections_after}
+use Rattle.rht_reclaim.specs.ReturnTables.{ReturnTablesModel, return_tables_after}
 use Rattle.rht_move.specs.Choice.{choice_of}
 use Rattle.rht_move.specs.LastEntry.{LastEntryModel, last_entry_plan, last_entry_after, followed}
 use Rattle.rht_move.specs.LastTable.{LastTableModel, last_table_plan, last_table_plan_at, last_table_after, last_table_after_at, next_or_shape}
-use Rattle.rht_move.specs.Work.{plan_at, after_at, lock_seen, begun, made, attached, unmade, future_or_idle, bucket_of_root, next_bucket, entry_passed, locked, entry_table_seen, entry_or_empty, walked, second_locked, cut_off, unlocked_bucket, closed, retiring, with_word, last_seen, IsWorkAtIn}
+use Rattle.rht_move.specs.Work.{plan_at, after_at, lock_seen, returned, kept, begun, made, attached, unmade, future_or_idle, bucket_of_root, next_bucket, entry_passed, locked, entry_table_seen, entry_or_empty, walked, second_locked, cut_off, unlocked_bucket, closed, retiring, with_word, last_seen, IsWorkAtIn}
 use Rattle.rht_move.specs.WorkStanding.{standing_of_work, table_of_seek, tables_of, nodes_of}
 use Rattle.rht_move.specs.declared.work.choice.Choice.{Choice}
 use Rattle.rht_move.specs.declared.work.choice.Choice.TheVariants.{Attach, Later, Nothing}
@@ -48,9 +51,19 @@ use Rattle.rht_core.proofs.Returning.ComingWays.{first_there}
 
 -- ---- where it stands nowhere
 
-pub locked-nowhere : (lock : ℕ) → standing_of_work (lock_seen lock).0 ≡ stands_nowhere
-locked-nowhere lock =
+pub locked-nowhere : (g : Geometry) (lock : ℕ) → standing_of_work (lock_seen g lock).0 ≡ stands_nowhere
+locked-nowhere g lock =
     cond_both (lock == 0) _ _ (λ (next : WorkAt × Next Reply). standing_of_work next.0 ≡ stands_nowhere) (λ t. refl) (λ f. refl)
+
+pub returned-nowhere : (returns : ReturnTablesModel) (next : Next (Unit {0}))
+    → standing_of_work (returned returns next) ≡ stands_nowhere
+returned-nowhere returns Go = refl
+returned-nowhere returns (Done done) = refl
+
+pub kept-nowhere : (keep : KeepSectionsModel) (again : Bool) (next : Next (Unit {0}))
+    → standing_of_work (kept keep again next) ≡ stands_nowhere
+kept-nowhere keep again Go = refl
+kept-nowhere keep again (Done done) = refl
 
 closed-nowhere : (ending : Ending) → standing_of_work (closed ending) ≡ stands_nowhere
 closed-nowhere (endings.Retiring root again) = refl
@@ -253,7 +266,9 @@ module _ (env : Env) (mix : ℕ → ℕ → ℕ → ℕ) (words : List ℕ) (G :
 
   pub work_comes : (c : ℕ) (state : WorkAt) → IsWorkAtIn env state → WorkMeans env mix c (mem env mix words) G (known_at_work state)
       → To (standing_of_work state) (after_at mix env state (old_of words (plan_at env c state))).0
-  work_comes c at.WorkLock within known = nowhere _ _ (locked-nowhere _)
+  work_comes c at.WorkLock within known = nowhere _ _ (locked-nowhere _ _)
+  work_comes c (at.Returning returns) within known =
+      let r = return_tables_after returns (old_of words (plan_at env c (at.Returning returns))) in nowhere _ _ (returned-nowhere r.0 r.1)
   work_comes c at.Opening within known = to_nowhere _ _ _
   work_comes c at.CurrentTable within known = to_tables _ _ _ _ (at_current refl, (at_current refl, tt))
   work_comes c (at.LastTable root seek) within known =
@@ -324,4 +339,7 @@ module _ (env : Env) (mix : ℕ → ℕ → ℕ → ℕ) (words : List ℕ) (G :
   work_comes c (at.NewFuture rehash) within known = nowhere _ _ (retiring-nowhere rehash _)
   work_comes c (at.Closing ending) within known = nowhere _ _ (closed-nowhere ending)
   work_comes c (at.Retiring root again) within known = to_nowhere _ _ _
+  work_comes c (at.KeepingSections keep again) within known =
+      let r = keep_sections_after keep (old_of words (plan_at env c (at.KeepingSections keep again))) in
+      nowhere _ _ (kept-nowhere r.0 again r.1)
   work_comes c (at.LettingGo outcome) within known = to_nowhere _ _ _

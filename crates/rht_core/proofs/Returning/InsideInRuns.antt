@@ -1,5 +1,7 @@
--- In every run an operation of a call is on what is its own, or on what its caller could reach in its section, and leads nowhere else.
-use Rattle.std.proofs.Common.{◌≡◌, ℕ, ◌+◌, ◌/◌, ◌<◌, ◌⊎◌, true, List, take, drop, length, slice_index, Some, refl, sym, ◌∙◌, ap, subst, inl, inr, arith}
+-- In every run an operation of a call is on what is its own, or on what its caller could reach in its section, and leads nowhere else;
+-- or it takes down a retired table that nobody could reach.
+use Rattle.std.proofs.Common.{◌≡◌, ℕ, ◌+◌, ◌/◌, ◌<◌, ◌⊎◌, true, List, take, drop, slice_index, Option, Some, refl, sym, ◌∙◌, ap, subst, inl, inr, arith}
+use Rattle.std.proofs.lemmas.Bool.{cases_lt}
 use Rattle.std.proofs.lemmas.List.{take-append-drop}
 use Rattle.rht_words.specs.declared.op.Op.{Op}
 use Rattle.rht_words.specs.declared.env.Env.{Env}
@@ -21,12 +23,18 @@ use Rattle.rht_find.specs.Find.{IsFindAtIn}
 use Rattle.rht_find.specs.FindHeld.{held_of_find}
 use Rattle.rht_find.specs.FindStanding.{standing_of_find}
 use Rattle.rht_find.specs.declared.find.FindAt.{FindAt}
+use Rattle.rht_move.specs.Work.{IsWorkAtIn}
+use Rattle.rht_move.specs.declared.work.WorkAt.{WorkAt}
+use Rattle.rht_move.specs.declared.work.WorkAt.TheVariants as working
+use Rattle.rht_move.proofs.WorkKnowledge.{WorkKnows}
+use Rattle.rht_reclaim.specs.ReturnTables.{ReturnTablesModel, IsReturnTablesIn}
 use Rattle.rht_core.specs.declared.event.Event.{Event}
 use Rattle.rht_core.specs.Jobs.{Job, finds, binds, lists, releases, rebinds, works, tidies, walks, counts, job_of, job_plan, held_of}
-use Rattle.rht_core.specs.Reach.{Thing, TableIn, PageAt, NodeAt, CouldReach, ReachesPage, at_table, at_node, at_listed, in_chain, IsReading, IsOwnNode, IsOwnSlot, IsWithin, Inside}
+use Rattle.rht_core.specs.Reach.{Thing, TableIn, PageAt, NodeAt, CouldReach, ReachesPage, at_table, at_node, at_listed, in_chain, IsReading, IsOwnNode, IsOwnSlot, IsWithin, MayTakeDown, LoadsRetiredShape, WithdrawsEntry, Inside}
 use Rattle.rht_core.specs.Runs.{Core, World, local_of, run_of, IsAdmitted, IsAdmittedEvent}
+use Rattle.rht_core.specs.Sections.{IsInNoSection}
 use Rattle.rht_core.specs.Standings.{standing, standing_of, standing_with}
-use Rattle.rht_core.specs.Traces.{Traced, traced_of}
+use Rattle.rht_core.specs.Traces.{Did, Traced, traced_of}
 use Rattle.rht_stands.specs.StandsFor.{shape_of}
 use Rattle.rht_core.specs.TablePages.{IsPageOfTable}
 use Rattle.rht_core.proofs.Counting.TablePages.{pages_in_words}
@@ -35,9 +43,10 @@ use Rattle.rht_core.proofs.Finding.LookupsAtEvents.{JobLooks, Looks, SaysOf}
 use Rattle.rht_core.proofs.Finding.LookupsInRuns.{has_looks}
 use Rattle.rht_core.proofs.Machines.JobSteps.{JobIn, JobKnows}
 use Rattle.rht_core.proofs.Tracing.TracedRuns.{world-traced_of}
-use Rattle.rht_ghost.proofs.Theory.Ghosts.{Ghost, Free, NodeHeld, SlotHeld, state_word}
+use Rattle.rht_ghost.proofs.Theory.Ghosts.{Ghost, Free, NodeHeld, SlotHeld, slot_holder, state_word, table_of_slot, IsSince}
+use Rattle.rht_ghost.proofs.Theory.Knowledge.{IsOverAt, outside-none}
 use Rattle.rht_ghost.proofs.Theory.Steps.{mem}
-use Rattle.rht_ghost.proofs.Theory.Wholes.{Whole}
+use Rattle.rht_ghost.proofs.Theory.Wholes.{Whole, IsTurned}
 use Rattle.rht_core.proofs.Returning.MetInRuns.{Met, has_met, comes_next, open_now, outside_now, outside_next}
 use Rattle.rht_core.proofs.Returning.Operating.{PageThere, Lies, May}
 use Rattle.rht_core.proofs.Returning.OperatingBinds.{bind_lies}
@@ -47,8 +56,10 @@ use Rattle.rht_core.proofs.Returning.OperatingFinds.{find_lies}
 use Rattle.rht_core.proofs.Returning.OperatingReleases.{all_lies, release_lies, rebind_lies}
 use Rattle.rht_core.proofs.Returning.OperatingWays.{OwnOf}
 use Rattle.rht_core.proofs.Returning.OperatingWorks.{work_lies}
+use Rattle.rht_core.proofs.Returning.OperatingReturns.{LoadsShape, TakesEntry, return_lies}
+use Rattle.rht_core.proofs.Returning.TiedWorks.{tied_of_returning, tied_of_work}
 use Rattle.rht_core.proofs.Returning.TiedJobs.{tied_of, tied_with}
-use Rattle.rht_core.proofs.Returning.SafeInRuns.{nobody}
+use Rattle.rht_core.proofs.Returning.SafeInRuns.{AllComeBehind, nobody, page_apart, slot_apart}
 
 -- ---- a page of a table that the caller could reach
 
@@ -79,18 +90,19 @@ module _ (env : Env) (mix : ℕ → ℕ → ℕ → ℕ) (L : Type 0) where
 
   -- ---- what is asked, said without a ghost
 
-  module _ (core : Core L) (c : ℕ) where
+  module _ (core : Core L) (c : ℕ) (did : Did) where
     abbrev Asked : Address → Type 0
     Asked CurrentTable = IsReading g core.words c
-    Asked (Slot slot word) = IsTableWord word → IsOwnSlot g core c slot ⊎ IsWithin g core c (TableIn slot)
+    Asked (Slot slot word) =
+        IsTableWord word → IsOwnSlot g core c slot ⊎ IsWithin g core c (TableIn slot) ⊎ LoadsRetiredShape g core c slot did
     Asked (Node node word) = IsOwnNode g core c node ⊎ IsWithin g core c (NodeAt node)
-    Asked (PageWord index) = IsWithin g core c (PageAt (index / 64))
+    Asked (PageWord index) = IsWithin g core c (PageAt (index / 64)) ⊎ WithdrawsEntry g core c index did
     Asked _ = Unit {0}
 
-    record IsAsked (op : Op) : Type 0 where
+    record IsAsked : Type 0 where
       address : Address
       there : IsAddress g address
-      on : op_place op ≡ place_of g address
+      on : op_place did.op ≡ place_of g address
       asked : Asked address
 
     -- so it is where the call's own is what the ghost says
@@ -108,7 +120,7 @@ module _ (env : Env) (mix : ℕ → ℕ → ℕ → ℕ) (L : Type 0) where
       asked_of CurrentTable there may = reads may
       asked_of (Slot slot word) there may = λ is. elim (may is) [
         | inl own ↦ inl (own_slot slot there.0 own)
-        | inr within ↦ inr (record { reads = reads within.0; reaches = could (TableIn slot) (at_table slot within.1) })
+        | inr within ↦ inr (inl (record { reads = reads within.0; reaches = could (TableIn slot) (at_table slot within.1) }))
       ]
       asked_of (Node node word) there may = elim may [
         | inl own ↦ inl (own_node node there own)
@@ -120,14 +132,19 @@ module _ (env : Env) (mix : ℕ → ℕ → ℕ → ℕ) (L : Type 0) where
           ]);
         })
       ]
-      asked_of (PageWord index) there may = record {
+      asked_of (PageWord index) there may = inl (record {
         reads = reads may.0;
         reaches = could (PageAt (index / 64)) (page_reached env mix core.words G whole (standing_of job) (index / 64) may.1);
-      }
+      })
       asked_of _ there may = tt
 
-      is_asked : (op : Op) → Lies env mix core.words G (held_of job) (standing_of job) Own op → IsAsked op
-      is_asked op lies = record { address = lies.address; there = lies.there; on = lies.on; asked = asked_of lies.address lies.there lies.may }
+      is_asked : (op : Op) → did.op ≡ op → Lies env mix core.words G (held_of job) (standing_of job) Own op → IsAsked
+      is_asked op is lies = record {
+        address = lies.address;
+        there = lies.there;
+        on = ap op_place is ∙ lies.on;
+        asked = asked_of lies.address lies.there lies.may;
+      }
 
   -- ---- look-ups, by what they know
 
@@ -150,8 +167,8 @@ module _ (env : Env) (mix : ℕ → ℕ → ℕ → ℕ) (L : Type 0) where
         let looking = has_looks L mix env events admitted in
         let placed = looking.placed in
         let trace = R.traces c in
-        let looks : Looks L mix env events R.world.core placed (looking.readers c).chains c port trace.begin (length trace.steps) state =
-        subst (JobLooks L mix env events R.world.core placed (looking.readers c).chains c trace.begin (length trace.steps)) does (looking.looks c).now in
+        let looks : Looks L mix env events R.world.core placed (looking.readers c).chains c port trace.begin trace.steps state =
+        subst (JobLooks L mix env events R.world.core placed (looking.readers c).chains c trace.begin trace.steps) does (looking.looks c).now in
         record {
           ghost = placed.ghost;
           whole = placed.inv.whole;
@@ -163,7 +180,7 @@ module _ (env : Env) (mix : ℕ → ℕ → ℕ → ℕ) (L : Type 0) where
 
     -- ---- each job
 
-    module _ (met : Met env mix L events (run_of {M = L} mix env events).core) (c : ℕ) (low : c < 16) where
+    module _ (met : Met env mix L events (run_of {M = L} mix env events).core) (c : ℕ) (low : c < 16) (did : Did) where
       abbrev core : Core L
       core = (run_of mix env events).core
 
@@ -178,9 +195,10 @@ module _ (env : Env) (mix : ℕ → ℕ → ℕ → ℕ) (L : Type 0) where
         reads = open_now env mix L events admitted c low job does
 
         -- by what its call has taken
-        with_own : (op : Op) → Lies env mix core.words G (held_of job) (standing_of job) (OwnOf (held_of job) G c) op → IsAsked core c op
+        with_own : (op : Op) → did.op ≡ op → Lies env mix core.words G (held_of job) (standing_of job) (OwnOf (held_of job) G c) op
+            → IsAsked core c did
         with_own =
-            is_asked core c job does reads G whole (OwnOf (held_of job) G c)
+            is_asked core c did job does reads G whole (OwnOf (held_of job) G c)
             (λ node l own. record {
               job = job;
               does = does;
@@ -196,48 +214,120 @@ module _ (env : Env) (mix : ℕ → ℕ → ℕ → ℕ) (L : Type 0) where
               has = own.0;
               taken = λ free.
                   let one : state_word (SlotHeld c) ≡ 0 = sym (ap state_word own.1) ∙ sym (whole.slots.states slot l) ∙ free in omega (arith, one);
-              apart = nobody env mix L events core met c (TableIn slot) own.1;
+              apart = nobody env mix L events core met c (TableIn slot) (ap slot_holder own.1);
             })
 
       few_callers : (caller : ℕ) → caller < g.callers → caller < 16
       few_callers caller there = let callers = g.within.callers_within in omega (arith, there, callers.1)
 
       -- a tidying loads section words, and gives nodes back
-      tidy_asked : (batch : BatchModel) (state : TidyAt) → IsTidyingIn g batch state → IsAsked core c (tidy.plan_at g batch state)
-      tidy_asked batch (tidy_at.Keeping caller) within =
-          record { address = Section caller; there = few_callers caller within.at_in; on = refl; asked = tt }
-      tidy_asked batch (tidy_at.Asking caller) within =
-          record { address = Section caller; there = few_callers caller within.at_in; on = refl; asked = tt }
-      tidy_asked batch (tidy_at.Giving index) within =
+      tidy_asked : (batch : BatchModel) (state : TidyAt) → did.op ≡ tidy.plan_at g batch state → IsTidyingIn g batch state
+          → IsAsked core c did
+      tidy_asked batch (tidy_at.Keeping caller) is within =
+          record { address = Section caller; there = few_callers caller within.at_in; on = ap op_place is; asked = tt }
+      tidy_asked batch (tidy_at.Asking caller) is within =
+          record { address = Section caller; there = few_callers caller within.at_in; on = ap op_place is; asked = tt }
+      tidy_asked batch (tidy_at.Giving index) is within =
           let low = waiting_low g batch (tidy_at.Giving index) index within in
-          record { address = NodeMap (slice_index batch.waiting index / 64); there = omega (arith, low); on = refl; asked = tt }
+          record { address = NodeMap (slice_index batch.waiting index / 64); there = omega (arith, low); on = ap op_place is; asked = tt }
 
-      job_asked : (job : Job) → job_of (local_of core c).doing ≡ Some job → JobIn env mix c job
-          → JobKnows env mix c job (mem env mix core.words) G → tied_of env mix G job → IsAsked core c (job_plan env c job)
-      job_asked (finds port state) does within knows tied =
+      -- a worker that gives tables back is in no section, and nobody could reach the table that it takes down
+      module _ (returns : ReturnTablesModel) (does : job_of (local_of core c).doing ≡ Some (works (working.Returning returns)))
+          (is : did.op ≡ job_plan env c (works (working.Returning returns)))
+          (knows : WorkKnows env mix c (working.Returning returns) (mem env mix core.words) G) where
+        -- so no open section comes to a table that it takes down
+        outside : IsInNoSection g core.words c
+        outside = subst (λ from. IsTurned env mix from (mem env mix core.words (Section c)))
+            (outside-none (G.from c) G.current knows.only.reads) (whole.sections.words c low)
+
+        behind : (slot : ℕ) (over : IsOverAt env mix G slot) → AllComeBehind G over.table
+        behind slot over d first from = elim (cases_lt over.table first) [
+          | inl l ↦ l
+          | inr before ↦ absurd (over.over d (subst (λ (o : Option ℕ). IsSince o over.table) (sym from) (omega (arith, before))))
+        ]
+
+        may_take_down : (slot : ℕ) → slot < 8 → IsOverAt env mix G slot → MayTakeDown g core c slot
+        may_take_down slot l over = record {
+          slot_in = l;
+          job = works (working.Returning returns);
+          does = does;
+          call = refl;
+          has = refl;
+          outside = outside;
+          retired = whole.slots.states slot l ∙ ap state_word over.retired;
+          apart = slot_apart env mix L events core met slot
+              (subst (AllComeBehind G) (sym (ap table_of_slot over.retired)) (behind slot over));
+        }
+
+        -- the operation that it plans, on the shape of such a table or on one of its entries
+        abbrev planned : Op
+        planned = job_plan env c (works (working.Returning returns))
+
+        shape_asked : LoadsShape env mix core.words G whole c planned → IsAsked core c did
+        shape_asked shape = record {
+          address = Slot shape.slot ShapeWord;
+          there = (shape.slot_in, tt);
+          on = ap op_place (is ∙ shape.loads);
+          asked = λ w. inr (inr (record { may = may_take_down shape.slot shape.slot_in shape.over; loads = is ∙ shape.loads }));
+        }
+
+        entry_asked : TakesEntry env mix core.words G whole c planned → IsAsked core c did
+        entry_asked entry = record {
+          address = PageWord entry.index;
+          there = entry.within;
+          on = ap op_place is ∙ elim entry.does [ inl loads ↦ ap op_place loads | inr clears ↦ ap op_place clears.0 ];
+          asked = inr (record {
+            slot = entry.slot;
+            may = may_take_down entry.slot entry.slot_in entry.over;
+            entry = entry.entry;
+            apart = page_apart env mix L events core met entry.over.table (entry.index / 64) entry.of (behind entry.slot entry.over);
+            does = elim entry.does [ inl loads ↦ inl (is ∙ loads) | inr clears ↦ inr (is ∙ clears.0, clears.1) ];
+          });
+        }
+
+        returning_asked : IsReturnTablesIn g returns → tied_of_returning returns.at → IsAsked core c did
+        returning_asked within tied =
+            let job = works (working.Returning returns) in
+            let h = held_of job in
+            elim (return_lies env mix core.words G whole c h (standing_of job) (OwnOf h G c) returns within knows tied) [
+              | inl lies ↦ with_own job does _ is lies
+              | inr taken ↦ elim taken [ inl shape ↦ shape_asked shape | inr entry ↦ entry_asked entry ]
+            ]
+
+      work_asked : (state : WorkAt) → job_of (local_of core c).doing ≡ Some (works state) → did.op ≡ job_plan env c (works state)
+          → IsWorkAtIn env state → WorkKnows env mix c state (mem env mix core.words) G → tied_of_work state → IsAsked core c did
+      work_asked (working.Returning returns) does is within knows tied = returning_asked returns does is knows within tied
+      work_asked state does is within knows tied =
+          with_own (works state) does _ is (work_lies env mix core.words G whole c low state (λ returns same. absurd (cc)) within knows)
+
+      job_asked : (job : Job) → job_of (local_of core c).doing ≡ Some job → did.op ≡ job_plan env c job → JobIn env mix c job
+          → JobKnows env mix c job (mem env mix core.words) G → tied_of env mix G job → IsAsked core c did
+      job_asked (finds port state) does planned within knows tied =
           let is = find_so c low port state does within in
-          is_asked core c (finds port state) does (reads (finds port state) does) is.ghost is.whole (λ thing. ⊥)
-          (λ node l own. absurd own) (λ slot l own. absurd own) (find.plan_at env c state) is.lies
-      job_asked (binds port owner once state) does within knows tied =
-          with_own (binds port owner once state) does _ (bind_lies env mix port owner once core.words G whole c low state within.at_in
+          is_asked core c did (finds port state) does (reads (finds port state) does) is.ghost is.whole (λ thing. ⊥)
+          (λ node l own. absurd own) (λ slot l own. absurd own) (find.plan_at env c state) planned is.lies
+      job_asked (binds port owner once state) does planned within knows tied =
+          with_own (binds port owner once state) does _ planned
+          (bind_lies env mix port owner once core.words G whole c low state within.at_in
           (record { knowing = knows.knowing; fits = knows.fits }) tied)
-      job_asked (lists port room state) does within knows tied =
-          with_own (lists port room state) does _ (all_lies env mix port 0 core.words G whole c low room state within.at_in
+      job_asked (lists port room state) does planned within knows tied =
+          with_own (lists port room state) does _ planned (all_lies env mix port 0 core.words G whole c low room state within.at_in
           (record { knowing = knows.knowing; fits = knows.fits }) tied)
-      job_asked (releases port owner state) does within knows tied =
-          with_own (releases port owner state) does _ (release_lies env mix port owner core.words G whole c low state within
+      job_asked (releases port owner state) does planned within knows tied =
+          with_own (releases port owner state) does _ planned (release_lies env mix port owner core.words G whole c low state within
           (record { knowing = knows.knowing; fits = knows.fits }) tied)
-      job_asked (rebinds port owner new state) does within knows tied =
-          with_own (rebinds port owner new state) does _ (rebind_lies env mix port owner core.words G whole c low new state within.at_in
+      job_asked (rebinds port owner new state) does planned within knows tied =
+          with_own (rebinds port owner new state) does _ planned
+          (rebind_lies env mix port owner core.words G whole c low new state within.at_in
           (record { knowing = knows.knowing; fits = knows.fits }) tied)
-      job_asked (works state) does within knows tied =
-          with_own (works state) does _ (work_lies env mix core.words G whole c low state within knows.knowing)
-      job_asked (tidies batch state) does within knows tied = tidy_asked batch state within
-      job_asked (walks from limit room state) does within knows tied =
+      job_asked (works state) does planned within knows tied =
+          work_asked state does planned within knows.knowing tied
+      job_asked (tidies batch state) does planned within knows tied = tidy_asked batch state planned within
+      job_asked (walks from limit room state) does planned within knows tied =
           let job = walks from limit room state in
-          is_asked core c job does (reads job does) G whole (λ thing. ⊥) (λ node l own. absurd own) (λ slot l own. absurd own)
-          (walk.plan_at env.geometry c state) (walk_lies env mix core.words G whole room c low state within tied)
-      job_asked counts does within knows tied = record { address = PortCount; there = tt; on = refl; asked = tt }
+          is_asked core c did job does (reads job does) G whole (λ thing. ⊥) (λ node l own. absurd own) (λ slot l own. absurd own)
+          (walk.plan_at env.geometry c state) planned (walk_lies env mix core.words G whole room c low state within tied)
+      job_asked counts does planned within knows tied = record { address = PortCount; there = tt; on = ap op_place planned; asked = tt }
 
 pub inside : (L : Type 0) (mix : ℕ → ℕ → ℕ → ℕ) → Inside L mix
 inside L mix env events c did admitted recorded =
@@ -248,10 +338,12 @@ inside L mix env events c did admitted recorded =
     let met = has_met env mix L before first in
     let placed = met.placed in
     let of = step_of env mix L core placed.ghost c did.op placed.all placed.inv recorded.plan in
-    let is = job_asked env mix L before first met c of.few of.job of.is of.within of.knows (subst (tied_with env mix placed.ghost) of.is (met.each c of.low).tied) in
-    let on : op_place did.op ≡ place_of env.geometry is.address = ap op_place of.plan ∙ is.on in
-    let here : (a : Address) → IsAddress env.geometry a → op_place did.op ≡ place_of env.geometry a → Asked env mix L core c a =
-    λ a there same. subst (Asked env mix L core c) (place_of-apart env.geometry is.address a is.there there (sym on ∙ same)) is.asked in
+    let tied = subst (tied_with env mix placed.ghost) of.is (met.each c of.low).tied in
+    let is = job_asked env mix L before first met c of.few did of.job of.is of.plan of.within of.knows tied in
+    let on : op_place did.op ≡ place_of env.geometry is.address = is.on in
+    let here : (a : Address) → IsAddress env.geometry a → op_place did.op ≡ place_of env.geometry a → Asked env mix L core c did a =
+    λ a there same.
+    subst (Asked env mix L core c did) (place_of-apart env.geometry is.address a is.there there (sym on ∙ same)) is.asked in
     record {
       nodes = λ node l (word, same). here (Node node word) l same;
       tables = λ slot l (word, of_table, same). here (Slot slot word) (l, table_word word of_table) same of_table;

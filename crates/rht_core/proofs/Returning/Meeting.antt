@@ -2,9 +2,10 @@
 --
 -- What was met stays met while the section is open; an operation of the caller's own leads on to nothing else; and a section that has just been
 -- opened stands nowhere.
-use Rattle.std.proofs.Common.{◌≡◌, ◌≢◌, ◌⊎◌, ℕ, suc, ◌%◌, ◌<◌, Bool, true, false, List, Option, Some, None, refl, sym, ◌∙◌, ap, subst, inl, inr, arith}
+use Rattle.std.proofs.Common.{◌≡◌, ◌≢◌, ◌⊎◌, ℕ, suc, ◌%◌, ◌<◌, ◌≤◌, Bool, true, false, List, Option, Some, None, refl, sym, ◌∙◌, ap, subst, inl, inr, arith}
 use Rattle.std.specs.Prelude.{◌&&◌, ◌==◌, if◌then◌else◌}
 use Rattle.std.specs.List.{AllByRecursion}
+use Rattle.std.specs.Option.{is_some}
 use Rattle.std.proofs.lemmas.Bool.{cases_eq, cond_both, eqb-true, eqb-false, eq-eqb, or_left}
 use Rattle.std.proofs.lemmas.List.{get_or-set_same, get_or-set_other}
 use Rattle.rht_words.specs.declared.op.Op.{Op}
@@ -12,6 +13,9 @@ use Rattle.rht_words.specs.declared.env.Env.{Env}
 use Rattle.rht_words.specs.Operations.{old_of}
 use Rattle.rht_words.specs.Places.{Section, word_at}
 use Rattle.rht_words.specs.Standing.{Standing, stands_nowhere}
+use Rattle.rht_words.specs.Members.{In}
+use Rattle.rht_words.proofs.Members.{AllByRecursion-In}
+use Rattle.rht_ghost.proofs.Theory.Wholes.{AreFrom, one_table}
 use Rattle.rht_words.proofs.EachElement.{AllByRecursion-weaker}
 use Rattle.rht_model.specs.declared.history.Call.{Call}
 use Rattle.rht_callers.specs.declared.local.Local.{Local}
@@ -24,6 +28,7 @@ use Rattle.rht_core.specs.Reach.{IsReading, ComesTo}
 use Rattle.rht_core.specs.Runs.{Core, core_step, with_step, with_machine, local_of, beginning_in, planned_in}
 use Rattle.rht_core.specs.Sections.{IsInNoSection}
 use Rattle.rht_core.specs.Standings.{standing, standing_with}
+use Rattle.rht_core.proofs.Events.UnturnedSections.{knows-reads}
 use Rattle.rht_core.proofs.Events.Invariants.{Inv, StepOf, step_of}
 use Rattle.rht_core.proofs.Events.RangesInRuns.{AllIn}
 use Rattle.rht_core.proofs.Events.JobsOfCallers.{left-job, first_job-machine}
@@ -32,9 +37,11 @@ use Rattle.rht_core.proofs.Events.SoundRuns.{has_place, made_in}
 use Rattle.rht_core.proofs.Events.Worlds.{beginning-some, planned-some}
 use Rattle.rht_core.proofs.Finding.PlacesInRuns.{Placed, EventMakes}
 use Rattle.rht_ghost.proofs.Theory.Ghosts.{Ghost, is_first, is_listed}
-use Rattle.rht_ghost.proofs.Theory.Passed.{TablesGrow, at-stays}
+use Rattle.rht_ghost.proofs.Theory.Passed.{GrowsFrom, at-from}
+use Rattle.rht_ghost.proofs.Theory.Knowledge.{ReadsFrom, outside-none}
+use Rattle.rht_ghost.proofs.Theory.Reliance.{TablesStay}
 use Rattle.rht_ghost.proofs.Theory.Frames.{GoesBack}
-use Rattle.rht_ghost.proofs.Theory.Steps.{mem, ghost_after}
+use Rattle.rht_ghost.proofs.Theory.Steps.{mem, ghost_after, SectionTurns, section_turns}
 use Rattle.rht_core.proofs.Returning.ComingJobs.{job_outside, first_stands}
 use Rattle.rht_core.proofs.Returning.Reached.{MeetsTable, StandsRight, comes-right}
 use Rattle.rht_core.proofs.Returning.Readers.{Reader, is_open, IsOpen, meets_too, opens, reads_nothing, ReaderRight, reader-opens, reader-leaves}
@@ -45,12 +52,22 @@ use Rattle.rht_core.proofs.Returning.StaleLinks.{made-keeps}
 nowhere_right : (G : Ghost) (r : Reader) (at : Standing) → at ≡ stands_nowhere → StandsRight G r at
 nowhere_right G r at is = subst (StandsRight G r) (sym is) (record { tables = tt; nodes = tt; listed = tt })
 
+-- a table that a section has met is not before one from which on tables stay that isn't behind the section's first one
+meets-from : (low : ℕ) (G : Ghost) (r : Reader) → IsOpen r → ((first : ℕ) → r.from ≡ Some first → low ≤ first) → (slot : ℕ)
+    → (meets : MeetsTable G r slot) → low ≤ meets.at.table
+meets-from low G r reads begins slot meets = go r.from refl
+  where
+    go : (from : Option ℕ) → r.from ≡ from → low ≤ meets.at.table
+    go None is = absurd (let closed = ap is_some is in cc)
+    go (Some first) is =
+        let since = meets.since first is in let begin = begins first is in omega (arith, since, begin)
+
 -- what was met stays met, and more may be
-stays_met : (env : Env) (mix : ℕ → ℕ → ℕ → ℕ) (G G' : Ghost) (r : Reader) → TablesGrow env mix G G' → (at : Standing) → StandsRight G r at
-    → StandsRight G' (meets_too G' r) at
-stays_met env mix G G' r grow at stands = record {
+stays_met : (env : Env) (mix : ℕ → ℕ → ℕ → ℕ) (low : ℕ) (G G' : Ghost) (r : Reader) → GrowsFrom env mix low G G' → IsOpen r
+    → ((first : ℕ) → r.from ≡ Some first → low ≤ first) → (at : Standing) → StandsRight G r at → StandsRight G' (meets_too G' r) at
+stays_met env mix low G G' r grow reads begins at stands = record {
   tables = AllByRecursion-weaker (MeetsTable G r) (MeetsTable G' (meets_too G' r)) (λ slot meets. record {
-    at = at-stays env mix G G' grow slot meets.at;
+    at = at-from env mix low G G' grow slot meets.at (meets-from low G r reads begins slot meets);
     since = meets.since;
   }) at.tables stands.tables;
   nodes = AllByRecursion-weaker _ _ (λ n met. or_left (r.chains n) (is_open r && is_first (G'.node n)) met) at.nodes stands.nodes;
@@ -137,6 +154,10 @@ module _ (env : Env) (mix : ℕ → ℕ → ℕ → ℕ) (L : Type 0) where
     odd_no true is = absurd (cc)
     odd_no false is = refl
 
+    odd_yes : (inside : Bool) → odd_by inside ≡ 1 → inside ≡ true
+    odd_yes true is = refl
+    odd_yes false is = absurd (cc)
+
     closed_now : (c : ℕ) → c < 16 → IsInNoSection env.geometry core.words c → in_section (job_of (local_of core c).doing) ≡ false
     closed_now c low out = odd_no _ (sym (parity c low) ∙ out)
 
@@ -214,6 +235,7 @@ module _ (env : Env) (mix : ℕ → ℕ → ℕ → ℕ) (L : Type 0) where
 
   pub record MeetsRight (core : Core L) (G : Ghost) (c : ℕ) (r : Reader) : Type 0 where
     pub right : ReaderRight env mix (mem env mix core.words) G c r
+    pub from_is : r.from ≡ G.from c
     pub stands : IsOpen r → StandsRight G r (standing core c)
     pub tied : tied_with env mix G (job_of (local_of core c).doing)
 
@@ -237,8 +259,8 @@ module _ (env : Env) (mix : ℕ → ℕ → ℕ → ℕ) (L : Type 0) where
     abbrev G' : Ghost
     G' = ghost_after env mix makes.caller makes.move G
 
-    grow : TablesGrow env mix G G'
-    grow = (makes.made.others (suc makes.caller) (λ e. absurd (omega arith))).tables.grow
+    stay : TablesStay env mix G G'
+    stay = (makes.made.others (suc makes.caller) (λ e. absurd (omega arith))).tables
 
     even : (word : ℕ) → word % 2 ≢ 1 → word % 2 ≡ 0
     even word not = omega (arith, not)
@@ -252,36 +274,98 @@ module _ (env : Env) (mix : ℕ → ℕ → ℕ → ℕ) (L : Type 0) where
           (standing core' c) comes
     ]
 
+    -- where it stands now it is in no table before one that is behind no table with which a section begins
+    pub stands_from : (least : ℕ) → ((d first : ℕ) → G.from d ≡ Some first → least ≤ first) → AreFrom least G (standing core' c).tables
+    stands_from least begins slot there at = elim (cases_eq (section_of core c % 2) 1) [
+      | inl odd ↦
+          let reads = meets.right.odd.0 odd in
+          let met = AllByRecursion-In (MeetsTable G r) slot (standing core' c).tables (stands_then odd reads).tables there in
+          let from = meets-from least G r reads (λ first is. begins c first (sym meets.from_is ∙ is)) slot met in
+          omega (arith, from, one_table at met.at)
+      | inr not ↦
+          absurd (subst (λ (s : Standing). In slot s.tables) (leads.outside (even (section_of core c) not)) there)
+    ]
+
     tied_then : tied_with env mix G' (job_of (local_of core' c).doing)
-    tied_then = ties_stay env mix G G' grow (job_of (local_of core' c).doing) (leads.ties meets.tied)
+    tied_then =
+        ties_stay env mix stay.low G G' stay.grow (job_of (local_of core' c).doing) (stands_from stay.low stay.sections)
+        (leads.ties meets.tied)
 
-    opened_then : section_of core' c % 2 ≡ 1 → MeetsRight core' G' c (if section_of core c % 2 == 1 then meets_too G' r else opens G')
-    opened_then odd =
-        cond_both (section_of core c % 2 == 1) _ _ (MeetsRight core' G' c)
-        (λ t.
-        let was = eqb-true (section_of core c % 2) 1 t in
-        record {
-          right = made-keeps env mix makes.caller c (mem env mix core.words) (mem env mix core'.words) G G' r makes.made unmet
-              (odd ∙ sym was) meets.right;
-          stands = λ open_then. stays_met env mix G G' r grow (standing core' c) (stands_then was open_then);
-          tied = tied_then;
-        })
-        (λ f. record {
-          right = reader-opens env mix (mem env mix core'.words) G' c makes.made.whole odd;
-          stands = λ open_then.
-              nowhere_right G' (opens G') (standing core' c) (leads.outside (even (section_of core c) (eqb-false (section_of core c % 2) 1 f)));
-          tied = tied_then;
-        })
+    -- by its section's word behind the event: from which table on it reads then
+    module _ (parity' : AreRight env mix L core') (low : c < 16) where
+      reads_then : ReadsFrom (in_section (job_of (local_of core' c).doing)) (G'.from c) G'.current
+      reads_then =
+          subst (λ (K : Ghost). ReadsFrom (in_section (job_of (local_of core' c).doing)) (K.from c) K.current) makes.same
+          (knows-reads env mix c (job_of (local_of core' c).doing) (mem env mix core'.words) makes.ghost (makes.inv.each c))
 
-    pub meets_then : MeetsRight core' G' c (reader_then core core' c G' r)
-    meets_then =
-        cond_both (section_of core' c % 2 == 1) _ _ (MeetsRight core' G' c)
-        (λ t. opened_then (eqb-true (section_of core' c % 2) 1 t))
-        (λ f. record {
-          right = reader-leaves env mix (mem env mix core'.words) G' c (even (section_of core' c) (eqb-false (section_of core' c % 2) 1 f));
-          stands = λ open_then. absurd (cc);
-          tied = tied_then;
-        })
+      not_closed : section_of core' c % 2 ≡ 1 → G'.from c ≢ None
+      not_closed odd closed =
+          subst (λ f. ReadsFrom true f G'.current) closed
+          (subst (λ inside. ReadsFrom inside (G'.from c) G'.current) (odd_yes core' parity' _ (sym (parity' c low) ∙ odd)) reads_then)
+
+      shut_then : section_of core' c % 2 ≡ 0 → G'.from c ≡ None
+      shut_then is =
+          outside-none (G'.from c) G'.current
+          (subst (λ inside. ReadsFrom inside (G'.from c) G'.current) (odd_no core' parity' _ (sym (parity' c low) ∙ is)) reads_then)
+
+      turned : SectionTurns env mix c G G'
+      turned = section_turns env mix makes.caller c makes.move (mem env mix core.words) G makes.ready
+
+      -- a section that was open and is has its first table still
+      still_from : section_of core c % 2 ≡ 1 → section_of core' c % 2 ≡ 1 → r.from ≡ G'.from c
+      still_from was odd = elim turned [
+        | inl same ↦ meets.from_is ∙ sym same
+        | inr (inl opened) ↦ absurd (let none = ap is_some (meets.from_is ∙ opened.0) in let reads = meets.right.odd.0 was in cc)
+        | inr (inr closed) ↦ absurd (not_closed odd closed)
+      ]
+
+      closed_before : section_of core c % 2 ≢ 1 → G.from c ≡ None
+      closed_before shut = sym meets.from_is ∙ none r.from refl
+        where
+          none : (from : Option ℕ) → r.from ≡ from → r.from ≡ None
+          none None is = is
+          none (Some first) is = absurd (shut (meets.right.odd.1 (ap is_some is)))
+
+      -- and one that is opened has the current one
+      opens_from : section_of core c % 2 ≢ 1 → section_of core' c % 2 ≡ 1 → Some G'.current ≡ G'.from c
+      opens_from shut odd = elim turned [
+        | inl same ↦ absurd (not_closed odd (same ∙ closed_before shut))
+        | inr (inl opened) ↦ sym opened.1
+        | inr (inr closed) ↦ absurd (not_closed odd closed)
+      ]
+
+      opened_then : section_of core' c % 2 ≡ 1 → MeetsRight core' G' c (if section_of core c % 2 == 1 then meets_too G' r else opens G')
+      opened_then odd =
+          cond_both (section_of core c % 2 == 1) _ _ (MeetsRight core' G' c)
+          (λ t.
+          let was = eqb-true (section_of core c % 2) 1 t in
+          record {
+            right = made-keeps env mix makes.caller c (mem env mix core.words) (mem env mix core'.words) G G' r meets.from_is makes.made
+                unmet (odd ∙ sym was) meets.right;
+            from_is = still_from was odd;
+            stands = λ open_then.
+                stays_met env mix stay.low G G' r stay.grow open_then (λ first is. stay.sections c first (sym meets.from_is ∙ is))
+                (standing core' c) (stands_then was open_then);
+            tied = tied_then;
+          })
+          (λ f. record {
+            right = reader-opens env mix (mem env mix core'.words) G' c makes.made.whole odd;
+            from_is = opens_from (eqb-false (section_of core c % 2) 1 f) odd;
+            stands = λ open_then.
+                nowhere_right G' (opens G') (standing core' c) (leads.outside (even (section_of core c) (eqb-false (section_of core c % 2) 1 f)));
+            tied = tied_then;
+          })
+
+      pub meets_then : MeetsRight core' G' c (reader_then core core' c G' r)
+      meets_then =
+          cond_both (section_of core' c % 2 == 1) _ _ (MeetsRight core' G' c)
+          (λ t. opened_then (eqb-true (section_of core' c % 2) 1 t))
+          (λ f. record {
+            right = reader-leaves env mix (mem env mix core'.words) G' c (even (section_of core' c) (eqb-false (section_of core' c % 2) 1 f));
+            from_is = sym (shut_then (even (section_of core' c) (eqb-false (section_of core' c % 2) 1 f)));
+            stands = λ open_then. absurd (cc);
+            tied = tied_then;
+          })
 
     -- ---- where its look-up stands, it has met what it stands at
 

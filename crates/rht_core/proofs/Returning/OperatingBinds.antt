@@ -48,7 +48,7 @@ module _ (env : Env) (mix : ℕ → ℕ → ℕ → ℕ) (port owner : ℕ) (onc
       → PageThere env.geometry words G (standing_of_bind (at.Entering attempt table shape place grow)) (word_index env mix grow.entry / 64)
   entry_page attempt table shape place grow within knows page is =
       let from = standing_of_bind (at.Entering attempt table shape place grow) in
-      let on = subst (λ (state : GrowAt). TableMeans env mix G (known_growing port table shape place state)) is knows.knowing.means.table in
+      let on = subst (λ (state : GrowAt). TableMeans env mix c G (known_growing port table shape place state)) is knows.knowing.means.table in
       let entry = way_entry env mix words G whole from _ table place on.shaped.passing.at (at_table table (inl refl)) on.to in
       let there = entry_in env mix G place.entry entry.open_in.open_is.entry in
       let same : word_index env mix grow.entry ≡ place.entry =
@@ -65,7 +65,7 @@ module _ (env : Env) (mix : ℕ → ℕ → ℕ → ℕ) (port owner : ℕ) (onc
   bind_lies (at.CurrentTable attempt) within knows tied = record { address = CurrentTable; there = tt; on = refl; may = refl }
   bind_lies (at.Locating attempt locate) within knows tied =
       let from = standing_of_bind (at.Locating attempt locate) in
-      locate_way env mix words G whole _ (Own (at.Locating attempt locate)) port from locate within.locate_in refl (inl refl)
+      locate_way env mix words G whole _ (Own (at.Locating attempt locate)) c port from locate within.locate_in refl (inl refl)
       knows.knowing.means.table
   bind_lies (at.Entering attempt table shape place grow) within knows tied =
       grow_lies env mix words G _ _ (Own (at.Entering attempt table shape place grow)) grow within.grow_in refl

@@ -69,7 +69,7 @@ module _ (env : Env) (mix : ℕ → ℕ → ℕ → ℕ) (port owner : ℕ) (wor
       → Lies env mix words G (held_of_all room.items state) (standing_of_all state) (OwnAll room state) (all.plan_at env c state)
   all_lies room alls.Opening within knows tied = record { address = Section c; there = low; on = refl; may = tt }
   all_lies room (alls.Seeking seek) within knows tied =
-      seek_lies env mix words G whole _ (OwnAll room (alls.Seeking seek)) port None seek within refl tied knows.knowing.means.table
+      seek_lies env mix words G whole _ (OwnAll room (alls.Seeking seek)) c port None seek within refl tied knows.knowing.means.table
   all_lies room (alls.Owner found node) within knows tied =
       record { address = Node node OwnerWord; there = within.node_in; on = refl; may = inr (refl, inr (inl refl)) }
   all_lies room (alls.ListLink found node) within knows tied =
@@ -90,7 +90,7 @@ module _ (env : Env) (mix : ℕ → ℕ → ℕ → ℕ) (port owner : ℕ) (wor
       → Lies env mix words G (held_of_release state) (standing_of_release state) (OwnRelease state) (release.plan_at env c state)
   release_lies releases.Opening within knows tied = record { address = Section c; there = low; on = refl; may = tt }
   release_lies (releases.Seeking seek) within knows tied =
-      seek_lies env mix words G whole _ (OwnRelease (releases.Seeking seek)) port None seek within refl tied knows.knowing.means.table
+      seek_lies env mix words G whole _ (OwnRelease (releases.Seeking seek)) c port None seek within refl tied knows.knowing.means.table
   release_lies (releases.Owner found node before) within knows tied =
       record { address = Node node OwnerWord; there = within.node_in; on = refl; may = inr (refl, inr (inl refl)) }
   release_lies (releases.ListLink found node) within knows tied =
@@ -134,7 +134,7 @@ module _ (env : Env) (mix : ℕ → ℕ → ℕ → ℕ) (port owner : ℕ) (wor
       (λ n is. (is, new_mine env mix words G whole c port new fresh.at n is knows.knowing.means.node))
   rebind_lies new (rebinds.Opening node) within knows tied = record { address = Section c; there = low; on = refl; may = tt }
   rebind_lies new (rebinds.Seeking node seek) within knows tied =
-      seek_lies env mix words G whole _ (OwnRebind (rebinds.Seeking node seek)) port (Some (own port owner new node)) seek within.seek_in
+      seek_lies env mix words G whole _ (OwnRebind (rebinds.Seeking node seek)) c port (Some (own port owner new node)) seek within.seek_in
       refl tied knows.knowing.means.table
   rebind_lies new (rebinds.Owner node found) within knows tied =
       record { address = Node found.node OwnerWord; there = within.found_in.node_in; on = refl; may = inr (refl, inl (inl refl)) }

@@ -76,7 +76,7 @@ module _ (env : Env) (mix : ℕ → ℕ → ℕ → ℕ) (words : List ℕ) (G :
         → home env mix G port of.table ≡ Some j → Page (j / 64)
     home_page port slot j of there here = record {
       table = of.table;
-      of = (home-word env mix M G whole port of.table j (at-there env mix whole.tables slot of) here).of;
+      of = (home-word env mix M G whole port of.table j (at-there of) here).of;
       there = table_of_slot slot of there;
     }
 
@@ -84,7 +84,7 @@ module _ (env : Env) (mix : ℕ → ℕ → ℕ → ℕ) (words : List ℕ) (G :
         → IsWayIn env mix G number of.table place → Entry place.entry
     way_entry number slot place of there to = record {
       table = of.table;
-      open_in = way_open env mix M G whole of.table number (at-there env mix whole.tables slot of) to.nested place to.way;
+      open_in = way_open env mix M G whole of.table number (at-there of) to.nested place to.way;
       there = table_of_slot slot of there;
     }
 
@@ -106,16 +106,16 @@ module _ (env : Env) (mix : ℕ → ℕ → ℕ → ℕ) (words : List ℕ) (G :
 
   -- ---- on the way to a port
 
-  module _ (h : Held Answer) (Own : Thing → Type 0) (port : ℕ) where
+  module _ (h : Held Answer) (Own : Thing → Type 0) (c port : ℕ) where
     pub locate_way : (at : Standing) (m : LocateModel) → IsLocateIn env.geometry m → h.section ≡ true → In m.table at.tables
-        → TableMeans env mix G (known_locate port m.table m.at) → Lies env mix words G h at Own (locate_plan m)
+        → TableMeans env mix c G (known_locate port m.table m.at) → Lies env mix words G h at Own (locate_plan m)
     locate_way at m within inside there known =
         locate_lies env mix words G h at Own m within inside there (λ place shape early is.
-        let on = subst (λ state. TableMeans env mix G (known_locate port m.table state)) is known in
+        let on = subst (λ state. TableMeans env mix c G (known_locate port m.table state)) is known in
         way_entry at _ m.table place on.shaped.passing.at (at_table m.table there) on.to)
 
     seek_lies_at : (own : Option KnownNode) (state : SeekAt) → IsSeekAtIn env.geometry state → h.section ≡ true → tied_of_seek env mix G state
-        → TableMeans env mix G (known_of_seek port own state).table
+        → TableMeans env mix c G (known_of_seek port own state).table
         → Lies env mix words G h (standing_of_seek state) Own (seek_plan_at env.geometry state)
     seek_lies_at own seeks.CurrentTable within inside tied known = record { address = CurrentTable; there = tt; on = refl; may = inside }
     seek_lies_at own (seeks.Locating locate) within inside tied known =
@@ -135,7 +135,7 @@ module _ (env : Env) (mix : ℕ → ℕ → ℕ → ℕ) (words : List ℕ) (G :
         unlock_lies env mix words G h at Own unlock within.unlock_in inside (tied_page at table unlock.place (at_table table (inl refl)) tied)
 
     pub seek_lies : (own : Option KnownNode) (m : SeekModel) → IsSeekIn env.geometry m → h.section ≡ true → tied_of_seek env mix G m.at
-        → TableMeans env mix G (known_of_seek port own m.at).table
+        → TableMeans env mix c G (known_of_seek port own m.at).table
         → Lies env mix words G h (standing_of_seek m.at) Own (seek_plan m)
     seek_lies own m within inside tied known =
         subst (λ g. Lies env mix words G h (standing_of_seek m.at) Own (seek_plan_at g m.at)) (sym within.geometry_same)

@@ -4,9 +4,13 @@ use Rattle.rht_words.specs.declared.env.Env.{Env}
 use Rattle.rht_words.specs.declared.op.Op.TheVariants.{Store}
 use Rattle.rht_words.specs.Held.{Held}
 use Rattle.rht_words.specs.Members.{In}
-use Rattle.rht_words.specs.Places.{CurrentTable, WorkLock, PortCount, Section, Slot, ShapeWord, SeedWord, FutureWord, StateWord, Node, ChainLink, KeyWord, IsBucketPlace, place_of}
+use Rattle.rht_words.specs.Places.{CurrentTable, WorkLock, PortCount, Section, Slot, ShapeWord, SeedWord, FutureWord, StateWord, LoadedSection, Node, ChainLink, KeyWord, IsBucketPlace, place_of}
 use Rattle.rht_words.specs.Standing.{Standing, if_one}
 use Rattle.rht_model.specs.Answers.{Answer}
+use Rattle.rht_reclaim.specs.KeepSections.{KeepSectionsModel, keep_sections_plan, keep_sections_plan_at, IsKeepSectionsIn, IsKeepSectionsAtIn}
+use Rattle.rht_reclaim.specs.ReturnTables.{ReturnTablesModel}
+use Rattle.rht_reclaim.specs.declared.keep_sections.KeepSectionsAt.{KeepSectionsAt}
+use Rattle.rht_reclaim.specs.declared.keep_sections.KeepSectionsAt.TheVariants as keeps
 use Rattle.rht_move.specs.LastEntry.{LastEntryModel, last_entry_plan, IsLastEntryIn}
 use Rattle.rht_move.specs.LastTable.{LastTableModel, last_table_plan, last_table_plan_at, IsLastTableIn, IsLastTableAtIn}
 use Rattle.rht_move.specs.Work.{plan_at, cut_plan, IsWorkAtIn}
@@ -97,25 +101,49 @@ module _ (env : Env) (mix : ℕ → ℕ → ℕ → ℕ) (words : List ℕ) (G :
 
   -- ---- each operation
 
-  pub work_lies : (state : WorkAt) → IsWorkAtIn env state → WorkKnows env mix c state (mem env mix words) G → Is state
-  work_lies at.WorkLock within knows = record { address = WorkLock; there = tt; on = refl; may = tt }
-  work_lies at.Opening within knows = record { address = Section c; there = low; on = refl; may = tt }
-  work_lies at.CurrentTable within knows = record { address = CurrentTable; there = tt; on = refl; may = refl }
-  work_lies (at.LastTable root seek) within knows =
+  keep_lies : (h : Held Answer) (from : Standing) (Mine : Thing → Type 0) (keep : KeepSectionsModel) → IsKeepSectionsIn env.geometry keep
+      → Lies env mix words G h from Mine (keep_sections_plan keep)
+  keep_lies h from Mine keep within =
+      subst (λ g. Lies env mix words G h from Mine (keep_sections_plan_at g keep.slot keep.at)) (sym within.geometry_same)
+      (go keep.at within.at_in)
+    where
+      few : (caller : ℕ) → caller < env.geometry.callers → caller < 16
+      few caller there = let callers = env.geometry.within.callers_within in omega (arith, there, callers.1)
+
+      go : (state : KeepSectionsAt) → IsKeepSectionsAtIn env.geometry state
+          → Lies env mix words G h from Mine (keep_sections_plan_at env.geometry keep.slot state)
+      go (keeps.Section caller) is = record { address = Section caller; there = few caller is; on = refl; may = tt }
+      go (keeps.Word caller word) is = record {
+        address = Slot keep.slot (LoadedSection caller);
+        there = (within.slot_in, few caller is.caller_in);
+        on = refl;
+        may = λ w. absurd w;
+      }
+
+  -- in each state but those in which retired tables are given back
+  pub work_lies : (state : WorkAt) → ((returns : ReturnTablesModel) → state ≡ at.Returning returns → ⊥) → IsWorkAtIn env state
+      → WorkKnows env mix c state (mem env mix words) G → Is state
+  work_lies (at.Returning returns) none within knows = absurd (none returns refl)
+  work_lies (at.KeepingSections keep again) none within knows =
+      keep_lies _ _ (Own (at.KeepingSections keep again)) keep within
+  work_lies at.WorkLock none within knows = record { address = WorkLock; there = tt; on = refl; may = tt }
+  work_lies at.Opening none within knows = record { address = Section c; there = low; on = refl; may = tt }
+  work_lies at.CurrentTable none within knows = record { address = CurrentTable; there = tt; on = refl; may = refl }
+  work_lies (at.LastTable root seek) none within knows =
       last_lies _ _ (Own (at.LastTable root seek)) seek within.seek_in refl (inr (inl refl))
-  work_lies (at.Count root last) within knows = record { address = PortCount; there = tt; on = refl; may = tt }
-  work_lies (at.Making wanted make) within knows =
+  work_lies (at.Count root last) none within knows = record { address = PortCount; there = tt; on = refl; may = tt }
+  work_lies (at.Making wanted make) none within knows =
       make_lies env mix words G _ _ (Own (at.Making wanted make)) make within.make_in
       (λ s is. (is, make_mine env mix words G whole c make.exponent make.seed make.at s is knows.means.making))
-  work_lies (at.Attaching root last slot shape) within knows =
+  work_lies (at.Attaching root last slot shape) none within knows =
       record { address = Slot last FutureWord; there = (within.last_in, tt); on = refl; may = λ w. inr (refl, inr (inl refl)) }
-  work_lies (at.Unmaking root unmake) within knows =
+  work_lies (at.Unmaking root unmake) none within knows =
       unmake_lies env mix words G _ _ (Own (at.Unmaking root unmake)) unmake within.unmake_in
-  work_lies (at.RootFuture root due) within knows =
+  work_lies (at.RootFuture root due) none within knows =
       record { address = Slot root FutureWord; there = (within, tt); on = refl; may = λ w. inr (refl, inl refl) }
-  work_lies (at.RootShape root future again) within knows =
+  work_lies (at.RootShape root future again) none within knows =
       record { address = Slot root ShapeWord; there = (within.root_in, tt); on = refl; may = λ w. inr (refl, inl refl) }
-  work_lies (at.Entry rehash number place) within knows =
+  work_lies (at.Entry rehash number place) none within knows =
       let from = standing_of_work (at.Entry rehash number place) in
       let near = knows.means.work.more in
       entry_lies env mix words G _ from (Own (at.Entry rehash number place)) place within.place_in refl
@@ -124,7 +152,7 @@ module _ (env : Env) (mix : ℕ → ℕ → ℕ → ℕ) (words : List ℕ) (G :
         open_in = way_open env mix (mem env mix words) G whole G.current number (current-there env mix whole.tables) near.to.nested place near.to.way;
         there = current_there from rehash.root near.empties.followed.root_is (at_table rehash.root (inl refl));
       })
-  work_lies (at.Locking rehash number lock) within knows =
+  work_lies (at.Locking rehash number lock) none within knows =
       let from = standing_of_work (at.Locking rehash number lock) in
       let facing = knows.means.work.more in
       lock_lies env mix words G _ from (Own (at.Locking rehash number lock)) lock within.lock_in.place_in refl
@@ -133,40 +161,40 @@ module _ (env : Env) (mix : ℕ → ℕ → ℕ → ℕ) (words : List ℕ) (G :
         of = (place-word env mix (mem env mix words) G whole G.current number _ (current-there env mix whole.tables) facing.below facing.here).of;
         there = current_there from rehash.root facing.empties.followed.root_is (at_table rehash.root (inl refl));
       })
-  work_lies (at.EntryTable emptying seek) within knows =
+  work_lies (at.EntryTable emptying seek) none within knows =
       last_lies _ _ (Own (at.EntryTable emptying seek)) seek within.seek_in refl (inr (inr (inl refl)))
-  work_lies (at.Seed emptying last) within knows = record {
+  work_lies (at.Seed emptying last) none within knows = record {
     address = Slot last.table SeedWord;
     there = (within.last_in.table_in, tt);
     on = refl;
     may = λ w. inr (refl, inr (inr (inl refl)));
   }
-  work_lies (at.BucketWord emptying target) within knows =
+  work_lies (at.BucketWord emptying target) none within knows =
       let from = standing_of_work (at.BucketWord emptying target) in
       let next = knows.means.work.more.next in
       page_lies env mix words G _ from (Own (at.BucketWord emptying target)) (plan_at env c (at.BucketWord emptying target)) emptying.bucket.place
       within.emptying_in.locked_in.place_in refl refl
       (emptied_page from emptying.rehash.root next.empties.followed.root_is (at_table emptying.rehash.root (inl refl)) _ _ next)
-  work_lies (at.Walking emptying target walk) within knows =
+  work_lies (at.Walking emptying target walk) none within knows =
       walk_lies _ _ (Own (at.Walking emptying target walk)) walk within.walk_in refl (inl refl)
-  work_lies (at.Key emptying target entry) within knows =
+  work_lies (at.Key emptying target entry) none within knows =
       record { address = Node entry.node KeyWord; there = within.entry_in.node_in; on = refl; may = inr (refl, inl (inl refl)) }
-  work_lies (at.LockingSecond emptying entry table lock) within knows =
+  work_lies (at.LockingSecond emptying entry table lock) none within knows =
       let from = standing_of_work (at.LockingSecond emptying entry table lock) in
       let aiming = knows.means.work.more in
       let root_is = aiming.tail.stands.bucket.next.empties.followed.root_is in
       lock_lies env mix words G _ from (Own (at.LockingSecond emptying entry table lock)) lock within.lock_in.place_in refl
       (aimed_page from emptying.rehash.root root_is (at_table emptying.rehash.root (inl refl)) entry.node lock.place aiming.aim)
-  work_lies (at.EntryLink emptying entry second) within knows =
+  work_lies (at.EntryLink emptying entry second) none within knows =
       record { address = Node entry.node ChainLink; there = within.entry_in.node_in; on = refl; may = inr (refl, inl (inl refl)) }
-  work_lies (at.Linking emptying entry second) within knows =
+  work_lies (at.Linking emptying entry second) none within knows =
       let from = standing_of_work (at.Linking emptying entry second) in
       let out = knows.means.work.more in
       page_lies env mix words G _ from (Own (at.Linking emptying entry second)) (plan_at env c (at.Linking emptying entry second)) second.bucket.place
       within.second_in.bucket_in.place_in refl refl
       (aimed_page from emptying.rehash.root out.out.next.empties.followed.root_is (at_table emptying.rehash.root (inl refl)) entry.node
       second.bucket.place out.target.aim)
-  work_lies (at.CuttingOff emptying entry) within knows =
+  work_lies (at.CuttingOff emptying entry) none within knows =
       let from = standing_of_work (at.CuttingOff emptying entry) in
       let next = knows.means.work.more.out.next in
       cut_lies _ from (Own (at.CuttingOff emptying entry)) emptying.bucket.place entry.before within.emptying_in.locked_in.place_in refl
@@ -176,7 +204,7 @@ module _ (env : Env) (mix : ℕ → ℕ → ℕ → ℕ) (words : List ℕ) (G :
       before_there : (before : Option ℕ) → (n : ℕ) → before ≡ Some n → In n (entry.node ∷ if_one before)
       before_there None n is = absurd (cc)
       before_there (Some m) n is = let same : m ≡ n = cc in inr (inl (sym same))
-  work_lies (at.Unlocking rehash number unlock stop) within knows =
+  work_lies (at.Unlocking rehash number unlock stop) none within knows =
       let from = standing_of_work (at.Unlocking rehash number unlock stop) in
       let next = unlocked_next rehash _ stop knows.means.work in
       unlock_lies env mix words G _ from (Own (at.Unlocking rehash number unlock stop)) unlock within.unlock_in refl
@@ -186,14 +214,14 @@ module _ (env : Env) (mix : ℕ → ℕ → ℕ → ℕ) (words : List ℕ) (G :
           → WorkMeans env mix c (mem env mix words) G (known_unlocking rehash at stop) → IsNext env mix c G (known_rehash rehash) at
       unlocked_next rehash at true means = means.more.next
       unlocked_next rehash at false means = means.more.bucket.next
-  work_lies (at.Publishing rehash) within knows = record { address = CurrentTable; there = tt; on = refl; may = refl }
-  work_lies (at.NewFuture rehash) within knows = record {
+  work_lies (at.Publishing rehash) none within knows = record { address = CurrentTable; there = tt; on = refl; may = refl }
+  work_lies (at.NewFuture rehash) none within knows = record {
     address = Slot rehash.future FutureWord;
     there = (within.tables_in.future_in, tt);
     on = refl;
     may = λ w. inr (refl, inl refl);
   }
-  work_lies (at.Closing ending) within knows = record { address = Section c; there = low; on = refl; may = tt }
-  work_lies (at.Retiring root again) within knows =
+  work_lies (at.Closing ending) none within knows = record { address = Section c; there = low; on = refl; may = tt }
+  work_lies (at.Retiring root again) none within knows =
       record { address = Slot root StateWord; there = (within, tt); on = refl; may = λ w. absurd w }
-  work_lies (at.LettingGo outcome) within knows = record { address = WorkLock; there = tt; on = refl; may = tt }
+  work_lies (at.LettingGo outcome) none within knows = record { address = WorkLock; there = tt; on = refl; may = tt }

@@ -14,8 +14,8 @@ use Rattle.rht_core.specs.Reach.{Thing, TableIn, PageAt, NodeAt, CouldReach, Rea
 use Rattle.rht_stands.specs.StandsFor.{shape_of, bucket_in}
 use Rattle.rht_core.specs.TablePages.{IsPageOfTable}
 use Rattle.rht_core.proofs.Counting.TablePages.{pages_in_words}
-use Rattle.rht_ghost.proofs.Theory.Ghosts.{Ghost, NodeHeld, SlotOwner, SlotHeld, PageHeld, PageOwner, PageOf, has_table, is_first, held_not_used, seat-first}
-use Rattle.rht_ghost.proofs.Theory.Wholes.{place_at, Whole, AreThereFrom, IsAt}
+use Rattle.rht_ghost.proofs.Theory.Ghosts.{Ghost, NodeHeld, SlotOwner, slot_holder, held-no_table, PageHeld, PageOwner, PageOf, has_table, is_first, held_not_used, seat-first}
+use Rattle.rht_ghost.proofs.Theory.Wholes.{place_at, Whole, AreThereFrom, IsAt, current-at, there_behind}
 use Rattle.rht_ghost.proofs.Theory.SeatedLinks.{next_of, link-next_of, head-seated}
 use Rattle.rht_ghost.proofs.Theory.Steps.{mem}
 use Rattle.rht_core.proofs.Meaning.TablesInForce.{current_slot, next_named}
@@ -34,14 +34,14 @@ pub record StandsRight (G : Ghost) (r : Reader) (at : Standing) : Type 0 where
   pub nodes : AllByRecursion (λ n. r.chains n ≡ true) at.nodes
   pub listed : AllByRecursion (λ n. r.lists n ≡ true) at.listed
 
--- a caller has taken the thing for itself
+-- a caller has the thing for itself: it took it, or gives it back
 abbrev pub IsTakenBy : Ghost → ℕ → Thing → Type 0
-IsTakenBy G d (TableIn slot) = G.slot slot ≡ SlotHeld d
+IsTakenBy G d (TableIn slot) = slot_holder (G.slot slot) ≡ Some d
 IsTakenBy G d (PageAt page) = G.page page ≡ PageHeld d
 IsTakenBy G d (NodeAt node) = G.node node ≡ NodeHeld d
 
-held_no_table : (o : SlotOwner) (d : ℕ) → o ≡ SlotHeld d → has_table o ≡ true → ⊥
-held_no_table o d held has = let both = sym has ∙ ap has_table held in cc
+held_no_table : (o : SlotOwner) (d : ℕ) → slot_holder o ≡ Some d → has_table o ≡ true → ⊥
+held_no_table o d held has = let both : true ≡ false = sym has ∙ held-no_table o d held in cc
 
 held_no_page : (o : PageOwner) (d τ : ℕ) → o ≡ PageHeld d → o ≡ PageOf τ → ⊥
 held_no_page o d τ held of = let both : PageHeld d ≡ PageOf τ = sym held ∙ of in cc
@@ -66,7 +66,12 @@ module _ (env : Env) (mix : ℕ → ℕ → ℕ → ℕ) (words : List ℕ) (G :
       next_named env mix words G whole meets.at.table next (meets-there slot meets) meets.at.attached
       (subst (λ s. slot_of (mem env mix words (Slot s FutureWord)) ≡ Some next) (sym meets.at.slot_is) leads) in
       record {
-        at = record { table = meets.at.table + 1; attached = named.attached; slot_is = named.slot_is };
+        at = record {
+          table = meets.at.table + 1;
+          attached = named.attached;
+          slot_is = named.slot_is;
+          on = there_behind G meets.at.table (meets-there slot meets);
+        };
         since = λ τ from. let before = meets.since τ from in omega (arith, before);
       }
 
@@ -74,11 +79,7 @@ module _ (env : Env) (mix : ℕ → ℕ → ℕ → ℕ) (words : List ℕ) (G :
   pub reaches-table : (slot : ℕ) → ReachesTable env.geometry words at slot → MeetsTable G r slot
   reaches-table slot (at_table s there) = AllByRecursion-In (MeetsTable G r) s at.tables stands.tables there
   reaches-table slot (at_current none) = record {
-    at = record {
-      table = G.current;
-      attached = whole.tables.current_in;
-      slot_is = sym (current_slot env mix words G whole);
-    };
+    at = current-at env mix whole.tables slot (sym (current_slot env mix words G whole));
     since = right.low;
   }
   reaches-table slot (by_future s next reached leads) = next_table s next (reaches-table s reached) leads
@@ -140,8 +141,9 @@ module _ (env : Env) (mix : ℕ → ℕ → ℕ → ℕ) (words : List ℕ) (G :
       subst (λ s. has_table (G.slot s) ≡ true) meets.at.slot_is
       (meets-there slot meets meets.at.table (omega arith) meets.at.attached).has_slot
 
+  -- of one that the section may come to
   pub reaches-page : (page : ℕ) → ReachesPage env.geometry words at page
-      → (τ : ℕ) × (G.page page ≡ PageOf τ)
+      → (τ : ℕ) × (G.page page ≡ PageOf τ) × ((first : ℕ) → r.from ≡ Some first → first ≤ τ)
   reaches-page page reached =
       let meets = reaches-table reached.slot reached.table in
       let τ = meets.at.table in
@@ -151,6 +153,7 @@ module _ (env : Env) (mix : ℕ → ℕ → ℕ → ℕ) (words : List ℕ) (G :
         τ,
         (pages_in_words env mix words G whole τ there page).0
             (subst (λ s. IsPageOfTable env.geometry words s page) shape reached.of),
+        meets.since,
       )
 
   -- what a caller has taken for itself could not be reached

@@ -1,8 +1,9 @@
--- In every run nobody in a section could reach what an operation gives back: it is a caller's own until then, and what could be reached is
--- some table's or was a port's.
-use Rattle.std.proofs.Common.{◌≡◌, ◌≢◌, ◌⊎◌, ℕ, suc, ◌/◌, ◌%◌, ◌<◌, List, length, Some, true, false, take, drop, slice_index, refl, sym, ◌∙◌, ap, subst, inl, inr, arith}
+-- In every run nobody in a section could reach what an operation gives back: it is a caller's own until then, or was a table's to which no
+-- open section comes, or is a node that no section has met. And what could be reached is some table's or was a port's.
+use Rattle.std.proofs.Common.{◌≡◌, ◌≢◌, ◌⊎◌, ℕ, suc, ◌/◌, ◌%◌, ◌<◌, ◌≤◌, List, length, Option, Some, None, true, false, take, drop, slice_index, refl, sym, ◌∙◌, ap, subst, inl, inr, arith}
 use Rattle.std.specs.Int.{bit_at}
-use Rattle.std.proofs.lemmas.Bool.{both_ways}
+use Rattle.std.specs.Option.{is_some}
+use Rattle.std.proofs.lemmas.Bool.{both_ways, cases_lt}
 use Rattle.std.proofs.lemmas.List.{take-append-drop}
 use Rattle.rht_words.specs.declared.op.Op.{Op}
 use Rattle.rht_words.specs.declared.env.Env.{Env}
@@ -17,8 +18,9 @@ use Rattle.rht_core.specs.Standings.{standing}
 use Rattle.rht_core.specs.Traces.{Did}
 use Rattle.rht_core.proofs.Events.Invariants.{StepOf, step_of}
 use Rattle.rht_ghost.proofs.Theory.Frames.{Made, GoesBack}
-use Rattle.rht_ghost.proofs.Theory.Ghosts.{Ghost, Owner, Free, NodeHeld, First, Leaving, Behind, Taken, PageOwner, PageFree, PageHeld, PageOf, SlotOwner, SlotFree, SlotHeld, Live, Retired, IsUsed, is_used, has_table, state_word, index_at}
-use Rattle.rht_ghost.proofs.Theory.Passed.{TablesGrow, less-grown}
+use Rattle.rht_ghost.proofs.Theory.Ghosts.{Ghost, Owner, Free, NodeHeld, First, Leaving, Behind, Taken, PageOwner, PageFree, PageHeld, PageOf, SlotOwner, SlotFree, SlotHeld, Live, Retiring, Retired, Back, slot_holder, IsUsed, is_used, has_table, state_word, index_at, table_of_page}
+use Rattle.rht_ghost.proofs.Theory.Passed.{less-grown}
+use Rattle.rht_ghost.proofs.Theory.Reliance.{TablesStay}
 use Rattle.rht_ghost.proofs.Theory.Steps.{mem, ghost_after}
 use Rattle.rht_ghost.proofs.Theory.Wholes.{Whole, slot-there}
 use Rattle.rht_core.proofs.Returning.GoneBack.{gives_back}
@@ -34,18 +36,34 @@ free_state : (o : SlotOwner) → state_word o ≡ 0 → o ≡ SlotFree
 free_state SlotFree is = refl
 free_state (SlotHeld d) is = absurd (omega (arith, is))
 free_state (Live τ) is = absurd (omega (arith, is))
+free_state (Retiring τ) is = absurd (omega (arith, is))
 free_state (Retired τ) is = absurd (omega (arith, is))
+free_state (Back d) is = absurd (omega (arith, is))
 
--- a node that a caller's calls had taken out goes back
+-- each open section was opened behind the table
+abbrev pub AllComeBehind : Ghost → ℕ → Type 0
+AllComeBehind G τ = (d first : ℕ) → G.from d ≡ Some first → τ < first
+
+-- a page was a table's
+pub record WasPageOf (G : Ghost) (page : ℕ) : Type 0 where
+  pub table : ℕ
+  pub of : G.page page ≡ PageOf table
+  pub behind : AllComeBehind G table
+
+-- a node that a caller's calls had taken out goes back, or what was a table's to which no open section comes
 abbrev pub IsBack : Env → (ℕ → ℕ → ℕ → ℕ) → ℕ → Ghost → Ghost → Thing → Type 0
 IsBack env mix c G G' (NodeAt node) = GoesBack env mix c G G' node
-IsBack env mix c G G' (PageAt page) = ⊥
-IsBack env mix c G G' (TableIn slot) = ⊥
+IsBack env mix c G G' (PageAt page) = WasPageOf G page
+IsBack env mix c G G' (TableIn slot) = (has_table (G.slot slot) ≡ true) × AllComeBehind G (index_at G slot)
 
 module _ (env : Env) (mix : ℕ → ℕ → ℕ → ℕ) (c : ℕ) (words : List ℕ) (G G' : Ghost) (op : Op)
     (whole : Whole env mix (mem env mix words) G) (made : Made env mix c (mem env mix words) G (mem env mix (applied words op)) G') where
-  grow : TablesGrow env mix G G'
-  grow = (made.others (suc c) (λ e. absurd (omega arith))).tables.grow
+  stay : TablesStay env mix G G'
+  stay = (made.others (suc c) (λ e. absurd (omega arith))).tables
+
+  -- a table that doesn't stay is one to which no open section comes
+  come_behind : (τ : ℕ) → τ < stay.low → AllComeBehind G τ
+  come_behind τ low d first is = let least = stay.sections d first is in omega (arith, low, least)
 
   -- ---- a caller has what becomes free
 
@@ -67,30 +85,41 @@ module _ (env : Env) (mix : ℕ → ℕ → ℕ → ℕ) (c : ℕ) (words : List
       go (Behind k) is = inr (back (ap is_used is))
       go (Taken d) is = inr (back (ap is_used is))
 
-  -- a slot that has a table keeps it, and so does a page that is a table's
-  freed_slot : (s : ℕ) → G.slot s ≢ SlotFree → G'.slot s ≡ SlotFree → (d : ℕ) × (G.slot s ≡ SlotHeld d)
+  -- a slot that has a table keeps it, and so does a page that is a table's, where an open section comes to the table
+  freed_slot : (s : ℕ) → G.slot s ≢ SlotFree → G'.slot s ≡ SlotFree
+      → ((d : ℕ) × (slot_holder (G.slot s) ≡ Some d)) ⊎ IsBack env mix c G G' (TableIn s)
   freed_slot s taken frees = go (G.slot s) refl
     where
-      still : has_table (G.slot s) ≡ true → ⊥
-      still has =
-          let of = whole.tables.slots s has in
-          let there = grow.there (index_at G s) (less-grown env mix of.attached grow.attached) (λ l. slot-there env mix whole.tables s has) in
-          let same : (G'.table (index_at G s)).slot ≡ s = (grow.tables (index_at G s) of.attached).slot ∙ of.slot in
-          let both : true ≡ false = sym there.has_slot ∙ ap (λ t. has_table (G'.slot t)) same ∙ ap has_table frees in cc
+      back : has_table (G.slot s) ≡ true → ((d : ℕ) × (slot_holder (G.slot s) ≡ Some d)) ⊎ IsBack env mix c G G' (TableIn s)
+      back has = elim (cases_lt (index_at G s) stay.low) [
+        | inl low ↦ inr (has, come_behind (index_at G s) low)
+        | inr from ↦
+            let of = whole.tables.slots s has in
+            let there = stay.grow.there (index_at G s) from (less-grown env mix of.attached stay.grow.attached)
+            (λ l. slot-there env mix whole.tables s has) in
+            let same : (G'.table (index_at G s)).slot ≡ s = (stay.grow.tables (index_at G s) of.attached).slot ∙ of.slot in
+            absurd (let both : true ≡ false = sym there.has_slot ∙ ap (λ t. has_table (G'.slot t)) same ∙ ap has_table frees in cc)
+      ]
 
-      go : (o : SlotOwner) → G.slot s ≡ o → (d : ℕ) × (G.slot s ≡ SlotHeld d)
+      go : (o : SlotOwner) → G.slot s ≡ o → ((d : ℕ) × (slot_holder (G.slot s) ≡ Some d)) ⊎ IsBack env mix c G G' (TableIn s)
       go SlotFree is = absurd (taken is)
-      go (SlotHeld d) is = (d, is)
-      go (Live τ) is = absurd (still (ap has_table is))
-      go (Retired τ) is = absurd (still (ap has_table is))
+      go (SlotHeld d) is = inl (d, ap slot_holder is)
+      go (Live τ) is = back (ap has_table is)
+      go (Retiring τ) is = back (ap has_table is)
+      go (Retired τ) is = back (ap has_table is)
+      go (Back d) is = inl (d, ap slot_holder is)
 
-  freed_page : (p : ℕ) → G.page p ≢ PageFree → G'.page p ≡ PageFree → (d : ℕ) × (G.page p ≡ PageHeld d)
+  freed_page : (p : ℕ) → G.page p ≢ PageFree → G'.page p ≡ PageFree
+      → ((d : ℕ) × (G.page p ≡ PageHeld d)) ⊎ IsBack env mix c G G' (PageAt p)
   freed_page p taken frees = go (G.page p) refl
     where
-      go : (o : PageOwner) → G.page p ≡ o → (d : ℕ) × (G.page p ≡ PageHeld d)
+      go : (o : PageOwner) → G.page p ≡ o → ((d : ℕ) × (G.page p ≡ PageHeld d)) ⊎ IsBack env mix c G G' (PageAt p)
       go PageFree is = absurd (taken is)
-      go (PageHeld d) is = (d, is)
-      go (PageOf τ) is = absurd (let both : PageOf τ ≡ PageFree = sym (grow.pages p τ is) ∙ frees in cc)
+      go (PageHeld d) is = inl (d, is)
+      go (PageOf τ) is = elim (cases_lt τ stay.low) [
+        | inl low ↦ inr (record { table = τ; of = is; behind = come_behind τ low })
+        | inr from ↦ absurd (let both : PageOf τ ≡ PageFree = sym (stay.grow.pages p τ from is) ∙ frees in cc)
+      ]
 
   -- ---- what an operation gives back a caller has
 
@@ -118,12 +147,12 @@ module _ (env : Env) (mix : ℕ → ℕ → ℕ → ℕ) (c : ℕ) (words : List
         let was : bit_at (mem env mix words a) (page % 64) ≡ 0 = ap (λ w. bit_at w (page % 64)) (word_found a gives.on) ∙ gives.clear in
         let is : bit_at (mem env mix (applied words op) a) (page % 64) ≡ 1 =
         ap (λ w. bit_at w (page % 64)) (word_left a (omega (arith, l)) gives.on) ∙ gives.set in
-        inl (freed_page page (λ free. let one = (whole.pages.bits page l).1 free in absurd (omega (arith, was, one)))
-        ((made.whole.pages.bits page l).0 is))
+        freed_page page (λ free. let one = (whole.pages.bits page l).1 free in absurd (omega (arith, was, one)))
+        ((made.whole.pages.bits page l).0 is)
     given_taken (TableIn slot) (l, gives) =
         let a = Slot slot StateWord in
-        inl (freed_slot slot (λ free. gives.taken (sym (word_found a gives.on) ∙ whole.slots.states slot l ∙ ap state_word free))
-        (free_state (G'.slot slot) (sym (made.whole.slots.states slot l) ∙ word_left a (l, tt) gives.on ∙ gives.frees)))
+        freed_slot slot (λ free. gives.taken (sym (word_found a gives.on) ∙ whole.slots.states slot l ∙ ap state_word free))
+        (free_state (G'.slot slot) (sym (made.whole.slots.states slot l) ∙ word_left a (l, tt) gives.on ∙ gives.frees))
 
 -- ---- what could be reached isn't free
 
@@ -169,19 +198,66 @@ module _ (env : Env) (mix : ℕ → ℕ → ℕ → ℕ) (L : Type 0) where
       (reaches-listed env mix core.words met.placed.ghost met.placed.inv.whole c (met.readers c) meets.right open_now (standing core c)
       (meets.stands open_now) node reached)
 
+  -- nor what is a table's behind which each open section was opened
+  nobody_behind : (events : List Event) (core : Core L) (met : Met env mix L events core) (τ : ℕ) (thing : Thing)
+      → AllComeBehind met.placed.ghost τ
+      → ((c : ℕ) (low : c < env.geometry.callers) → IsOpen (met.readers c) → CouldReach env.geometry core.words (standing core c) thing
+      → (first : ℕ) → (met.readers c).from ≡ Some first → first ≤ τ)
+      → NobodyReaches env.geometry core thing
+  nobody_behind events core met τ thing behind since c low reads reached = go (met.readers c).from refl
+    where
+      open_now : IsOpen (met.readers c)
+      open_now = (met.each c low).right.odd.0 reads
+
+      go : (from : Option ℕ) → (met.readers c).from ≡ from → ⊥
+      go None e = let both : true ≡ false = sym open_now ∙ ap is_some e in cc
+      go (Some first) e =
+          let least = since c low open_now reached first e in
+          let later = behind c first (sym (met.each c low).from_is ∙ e) in
+          omega (arith, least, later)
+
+  -- so no open section could reach such a table's page
+  pub page_apart : (events : List Event) (core : Core L) (met : Met env mix L events core) (τ page : ℕ)
+      → met.placed.ghost.page page ≡ PageOf τ → AllComeBehind met.placed.ghost τ → NobodyReaches env.geometry core (PageAt page)
+  page_apart events core met τ page of behind =
+      nobody_behind events core met τ (PageAt page) behind
+      (λ d low open_now reached.
+      let meets = met.each d low in
+      let is = reaches-page env mix core.words met.placed.ghost met.placed.inv.whole d (met.readers d) meets.right open_now
+      (standing core d) (meets.stands open_now) page reached in
+      let same : is.0 ≡ τ = ap table_of_page (sym is.1) ∙ ap table_of_page of in
+      λ first e. subst (λ σ. first ≤ σ) same (is.2 first e))
+
+  -- nor its slot
+  pub slot_apart : (events : List Event) (core : Core L) (met : Met env mix L events core) (slot : ℕ)
+      → AllComeBehind met.placed.ghost (index_at met.placed.ghost slot) → NobodyReaches env.geometry core (TableIn slot)
+  slot_apart events core met slot behind =
+      let G = met.placed.ghost in
+      nobody_behind events core met (index_at G slot) (TableIn slot) behind
+      (λ d low open_now reached.
+      let meets = met.each d low in
+      let is = reaches-table env mix core.words G met.placed.inv.whole d (met.readers d) meets.right open_now
+      (standing core d) (meets.stands open_now) slot reached in
+      let there = meets-there env mix core.words G met.placed.inv.whole d (met.readers d) meets.right open_now
+      (standing core d) (meets.stands open_now) slot is is.at.table (omega arith) is.at.attached in
+      let same : is.at.table ≡ index_at G slot = sym there.index ∙ ap (index_at G) is.at.slot_is in
+      λ first e. subst (λ τ. first ≤ τ) same (is.since first e))
+
   -- so it is of one that goes back
   comes_back : (events : List Event) (core : Core L) (met : Met env mix L events core) (c : ℕ) (op : Op)
       → (of : StepOf env mix L core met.placed.ghost c op) → planned_in core c ≡ Some op → (thing : Thing)
       → IsBack env mix c met.placed.ghost (ghost_after env mix c of.step.move met.placed.ghost) thing
       → NobodyReaches env.geometry core thing
   comes_back events core met c op of planned (NodeAt node) back =
+      let G = met.placed.ghost in
       nobody_back events core met node (met.apart c op of node planned
-      (gives_back env mix c (mem env mix core.words) met.placed.ghost met.placed.inv.whole node back.was of.step.move of.step.ready back.now))
-  comes_back events core met c op of planned (PageAt page) back = absurd back
-  comes_back events core met c op of planned (TableIn slot) back = absurd back
+      (gives_back env mix c (mem env mix core.words) G met.placed.inv.whole node back.was of.step.move of.step.ready back.now))
+  comes_back events core met c op of planned (PageAt page) back =
+      page_apart events core met back.table page back.of back.behind
+  comes_back events core met c op of planned (TableIn slot) back = slot_apart events core met slot back.1
 
 pub safe : (L : Type 0) (mix : ℕ → ℕ → ℕ → ℕ) → Safe L mix
-safe L mix env events c did thing admitted recorded gives =
+safe L mix env events admitted c did thing recorded gives =
     let before = take did.index events in
     let first = (AllByRecursion-cut (IsAdmittedEvent env.config.kind) before (drop did.index events)
     (subst (IsAdmitted env.config.kind) (sym (take-append-drop did.index events)) admitted)).0 in

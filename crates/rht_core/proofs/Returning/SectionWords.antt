@@ -1,4 +1,5 @@
--- An event leaves each section word as it is, or turns whether it is odd.
+-- An event leaves each section word as it is, or turns whether it is odd. It leaves it unless it is an operation of the section's own caller
+-- that adds 1 to it.
 use Rattle.std.proofs.Common.{◌≡◌, ◌≢◌, ◌⊎◌, ℕ, ◌+◌, ◌%◌, ◌<◌, List, length, Option, Some, None, refl, sym, ◌∙◌, ap, subst, inl, inr, arith}
 use Rattle.std.specs.Prelude.{slice_index}
 use Rattle.std.specs.Int.{bit_at}
@@ -18,7 +19,7 @@ use Rattle.rht_core.specs.declared.event.Event.{Event}
 use Rattle.rht_core.specs.declared.event.Event.TheVariants.{Enroll, Begin, Step}
 use Rattle.rht_core.specs.Jobs.{job_after, held_of, held_next}
 use Rattle.rht_core.specs.Runs.{Core, core_step, with_step, enrolling, planned_in}
-use Rattle.rht_core.proofs.Events.Invariants.{Inv, step_of}
+use Rattle.rht_core.proofs.Events.Invariants.{Inv, StepOf, step_of}
 use Rattle.rht_core.proofs.Events.RangesInRuns.{AllIn}
 use Rattle.rht_core.proofs.Events.SectionsInRuns.{SparesSections, by_move}
 use Rattle.rht_ghost.proofs.Theory.Ghosts.{Ghost}
@@ -69,6 +70,48 @@ module _ (env : Env) (mix : ℕ → ℕ → ℕ → ℕ) (L : Type 0) where
             inl (applied-other words op (8 + d) (λ at. ne (let on = ap op_place turns.adds in omega (arith, at, on))))
       ]
     ]
+
+    -- and it turns none but the caller's own, by adding 1 to it
+    op_same : (G : Ghost) (c : ℕ) (h h' : Holding) (move : Move) → ReadyFor env mix c (mem env mix words) G move
+        → Does env mix move op (old_of words op) h h' → (d ≡ c → op ≢ Add (place_of env.geometry (Section d)) 1)
+        → section (applied words op) d ≡ section words d
+    op_same G c h h' move ready does apart = elim (by_move env mix c (mem env mix words) G op (old_of words op) h h' move ready does) [
+      | inl keeps ↦ spared-same keeps.spares
+      | inr turns ↦ elim (cases_eq d c) [
+        | inl same ↦ absurd (apart same (subst (λ k. op ≡ Add (place_of env.geometry (Section k)) 1) (sym same) turns.adds))
+        | inr ne ↦ applied-other words op (8 + d) (λ at. ne (let on = ap op_place turns.adds in omega (arith, at, on)))
+      ]
+    ]
+
+  -- a step leaves the section word of each caller but its own, and that too unless it adds 1 to it
+  pub step_same : (core : Core L) (G : Ghost) (c : ℕ) (op : Op) → AllIn L mix env core → AllIn L mix env (core_step mix core (Step c)).0
+      → StepOf env mix L core G c op → planned_in core c ≡ Some op → (d : ℕ) → d < 16
+      → (d ≡ c → op ≢ Add (place_of env.geometry (Section d)) 1) → section (applied core.words op) d ≡ section core.words d
+  step_same core G c op all all' of plan d low apart =
+      let same : (core_step mix core (Step c)).0.words ≡ applied core.words op = ap (λ o. (with_step mix core c o).0.words) plan in
+      op_same core.words op of.all all.words (subst (AllByRecursion IsWord) same all'.words) d low G c (held_of of.job)
+      (held_next (job_after mix env of.job (old_of core.words op))) of.step.move of.step.ready of.step.does apart
+
+  -- the event is no operation of the caller
+  abbrev pub IsOthers : Core L → Event → ℕ → Type 0
+  IsOthers core Enroll d = Unit {0}
+  IsOthers core (Begin c call) d = Unit {0}
+  IsOthers core (Step c) d = (d ≢ c) ⊎ (planned_in core c ≡ None)
+
+  pub others_same : (core : Core L) (G : Ghost) (event : Event) → AllIn L mix env core → AllIn L mix env (core_step mix core event).0
+      → Inv env mix L core G → (d : ℕ) → d < 16 → IsOthers core event d
+      → section (core_step mix core event).0.words d ≡ section core.words d
+  others_same core G Enroll all all' inv d low others =
+      applied-other core.words (enrolling core.env) (8 + d) (λ at. absurd (omega (arith, at, low)))
+  others_same core G (Begin c call) all all' inv d low others = refl
+  others_same core G (Step c) all all' inv d low (inr none) = ap (λ o. section (with_step mix core c o).0.words d) none
+  others_same core G (Step c) all all' inv d low (inl ne) = go (planned_in core c) refl
+    where
+      go : (plan : Option Op) → planned_in core c ≡ plan → section (core_step mix core (Step c)).0.words d ≡ section core.words d
+      go None is = ap (λ o. section (with_step mix core c o).0.words d) is
+      go (Some op) is =
+          ap (λ o. section (with_step mix core c o).0.words d) is
+          ∙ step_same core G c op all all' (step_of env mix L core G c op all inv is) is d low (λ same. absurd (ne same))
 
   -- so does an event
   pub event_turns : (core : Core L) (G : Ghost) (event : Event) → AllIn L mix env core → AllIn L mix env (core_step mix core event).0

@@ -388,16 +388,16 @@ module _ (env : Env) (mix : ℕ → ℕ → ℕ → ℕ) (G : Ghost) where
 
 -- ---- each operation
 
-module _ (env : Env) (mix : ℕ → ℕ → ℕ → ℕ) (words : List ℕ) (G : Ghost) (whole : Whole env mix (mem env mix words) G) (port owner : ℕ) where
+module _ (env : Env) (mix : ℕ → ℕ → ℕ → ℕ) (words : List ℕ) (G : Ghost) (whole : Whole env mix (mem env mix words) G) (c port owner : ℕ) where
   -- where a call is at a port's bucket, as it is known
-  home_tied : (slot place : ℕ) (shape : Option ℕ) → IsAtHome env mix G port slot shape place → IsTied env mix G slot place
+  home_tied : (slot place : ℕ) (shape : Option ℕ) → IsAtHome env mix c G port slot shape place → IsTied env mix G slot place
   home_tied slot place shape is = record {
     at = is.passing.at;
-    of = (home-word env mix (mem env mix words) G whole port is.passing.at.table _ (at-there env mix whole.tables slot is.passing.at)
+    of = (home-word env mix (mem env mix words) G whole port is.passing.at.table _ (at-there is.passing.at)
         is.here).of;
   }
 
-  seek_ties_at : (own : Option KnownNode) (state : SeekAt) (word : ℕ) → TableMeans env mix G (known_of_seek port own state).table
+  seek_ties_at : (own : Option KnownNode) (state : SeekAt) (word : ℕ) → TableMeans env mix c G (known_of_seek port own state).table
       → tied_sought env mix G (seek_after_at mix env.geometry port state word)
   seek_ties_at own seeks.CurrentTable word known = tt
   seek_ties_at own (seeks.Locating locate) word known = located-tied env mix G env.geometry port (locate_after mix port locate word)
@@ -409,12 +409,12 @@ module _ (env : Env) (mix : ℕ → ℕ → ℕ → ℕ) (words : List ℕ) (G :
   seek_ties_at own (seeks.Leaving table unlock future) word known = left-tied env mix G env.geometry table unlock future
 
   seek_ties : (own : Option KnownNode) (m : SeekModel) (word : ℕ) → m.geometry ≡ env.geometry
-      → TableMeans env mix G (known_of_seek port own m.at).table
+      → TableMeans env mix c G (known_of_seek port own m.at).table
       → let r = seek_after mix port m word in tied_sought env mix G (r.0.at, r.1)
   seek_ties own m word same known =
       subst (λ g. tied_sought env mix G (seek_after_at mix g port m.at word)) (sym same) (seek_ties_at own m.at word known)
 
-  pub all_ties : (owners : List ℕ) (state : AllAt) (word : ℕ) → all.IsAllAtIn env state → TableMeans env mix G (known_of_all port owners state).table
+  pub all_ties : (owners : List ℕ) (state : AllAt) (word : ℕ) → all.IsAllAtIn env state → TableMeans env mix c G (known_of_all port owners state).table
       → tied_of_all env mix G state → tied_of_all env mix G (all.after_at mix env port state word).0
   all_ties owners listing.Opening word within known tied = tt
   all_ties owners (listing.Seeking seek) word within known tied =
@@ -424,7 +424,7 @@ module _ (env : Env) (mix : ℕ → ℕ → ℕ → ℕ) (words : List ℕ) (G :
   all_ties owners (listing.Unlocking table unlock) word within known tied = tt
   all_ties owners listing.Closing word within known tied = tt
 
-  pub release_ties : (state : ReleaseAt) (word : ℕ) → release.IsReleaseAtIn env state → TableMeans env mix G (known_of_release port owner state).table
+  pub release_ties : (state : ReleaseAt) (word : ℕ) → release.IsReleaseAtIn env state → TableMeans env mix c G (known_of_release port owner state).table
       → tied_of_release env mix G state → tied_of_release env mix G (release.after_at mix env port owner state word).0
   release_ties releasing.Opening word within known tied = tt
   release_ties (releasing.Seeking seek) word within known tied =
@@ -445,7 +445,7 @@ module _ (env : Env) (mix : ℕ → ℕ → ℕ → ℕ) (words : List ℕ) (G :
   release_ties (releasing.Closing reply removed) word within known tied = tt
 
   pub rebind_ties : (new : ℕ) (state : RebindAt) (word : ℕ) → rebind.IsRebindAtIn env state
-      → TableMeans env mix G (known_of_rebind port owner new state).table
+      → TableMeans env mix c G (known_of_rebind port owner new state).table
       → tied_of_rebind env mix G state → tied_of_rebind env mix G (rebind.after_at mix env port owner state word).0
   rebind_ties new (rebinding.Filling fresh) word within known tied =
       let r = new_node_after fresh word in rebind_filled-tied env mix G r.0 r.1
@@ -462,7 +462,7 @@ module _ (env : Env) (mix : ℕ → ℕ → ℕ → ℕ) (words : List ℕ) (G :
   rebind_ties new (rebinding.Closing end) word within known tied = rebind_closed-tied env mix G env.geometry end
   rebind_ties new (rebinding.Giving give) word within known tied = tt
 
-  pub bind_ties : (once : Bool) (state : BindAt) (word : ℕ) → TableMeans env mix G (known_of_bind port owner state).table
+  pub bind_ties : (once : Bool) (state : BindAt) (word : ℕ) → TableMeans env mix c G (known_of_bind port owner state).table
       → tied_of_bind env mix G state → tied_of_bind env mix G (bind.after_at mix env port once state word).0
   bind_ties once (binding.Filling new) word known tied = let r = new_node_after new word in filled-tied env mix G env port r.0 r.1
   bind_ties once (binding.Opening attempt) word known tied = tt

@@ -1,6 +1,6 @@
 -- The bucket of a walk, and the way to it, are those of the table that it walks, by what its operations found. That outlives whatever leaves
 -- tables what they are.
-use Rattle.std.proofs.Common.{◌≡◌, ℕ, ◌+◌, ◌<◌, nat_lt, nat_le, List, Option, Some, None, refl, sym, ◌∙◌, ap, subst, inl, arith}
+use Rattle.std.proofs.Common.{◌≡◌, ℕ, ◌+◌, ◌<◌, ◌≤◌, nat_lt, nat_le, List, Option, Some, None, refl, sym, ◌∙◌, ap, subst, inl, arith}
 use Rattle.std.specs.Prelude.{◌==◌}
 use Rattle.std.proofs.lemmas.Bool.{cond_both, and_parts, ltb-true}
 use Rattle.rht_words.specs.declared.env.Env.{Env}
@@ -26,11 +26,12 @@ use Rattle.rht_walk.proofs.WalkStays.{some_buckets}
 use Rattle.rht_ghost.proofs.Pieces.TableLoads.{shape_word}
 use Rattle.rht_ghost.proofs.Theory.Ghosts.{Ghost}
 use Rattle.rht_ghost.proofs.Theory.Knowledge.{IsWayIn}
-use Rattle.rht_ghost.proofs.Theory.Passed.{TablesGrow, at-stays}
+use Rattle.rht_ghost.proofs.Theory.Passed.{GrowsFrom, at-from}
 use Rattle.rht_ghost.proofs.Theory.Steps.{mem}
 use Rattle.rht_ghost.proofs.Theory.WaysRead.{words_of_pages, read_by_entry, flat_read, way_read, way_next, place_of_bucket}
-use Rattle.rht_ghost.proofs.Theory.WaysStay.{IsWayIn-stay}
-use Rattle.rht_ghost.proofs.Theory.Wholes.{Whole, word_index, IsThere, IsAt, current-there, at-there}
+use Rattle.rht_ghost.proofs.Theory.WaysStay.{IsWayIn-from}
+use Rattle.rht_walk.specs.WalkStanding.{standing_of_walk}
+use Rattle.rht_ghost.proofs.Theory.Wholes.{AreFrom, Whole, word_index, IsThere, IsAt, current-at, current-there, at-there}
 
 module _ (env : Env) (mix : ℕ → ℕ → ℕ → ℕ) (G : Ghost) where
   -- the bucket is in a table that was attached, of this shape
@@ -62,40 +63,48 @@ module _ (env : Env) (mix : ℕ → ℕ → ℕ → ℕ) (G : Ghost) where
   tied_of_walk (at.TableEnd table) = Unit {0}
   tied_of_walk (at.Closing end) = Unit {0}
 
--- ---- it outlives whatever leaves tables what they are
+-- ---- it outlives whatever leaves the tables what they are in which a walk stands
 
-module _ (env : Env) (mix : ℕ → ℕ → ℕ → ℕ) (G G' : Ghost) (grow : TablesGrow env mix G G') where
-  abbrev walked-stays : (visit : Visit) → IsWalked env mix G visit → IsWalked env mix G' visit
-  walked-stays visit is = record {
-    of = at-stays env mix G G' grow visit.table is.of;
+module _ (env : Env) (mix : ℕ → ℕ → ℕ → ℕ) (low : ℕ) (G G' : Ghost) (grow : GrowsFrom env mix low G G') where
+  abbrev walked-stays : (visit : Visit) → ((at : IsAt G visit.table) → low ≤ at.table) → IsWalked env mix G visit
+      → IsWalked env mix G' visit
+  walked-stays visit from is = record {
+    of = at-from env mix low G G' grow visit.table is.of (from is.of);
     shape_is = (grow.tables is.of.table is.of.attached).shape ∙ is.shape_is;
   }
 
-  way-stays : (visit : Visit) (way : PlaceModel) → IsOnWayTo env mix G visit way → IsOnWayTo env mix G' visit way
-  way-stays visit way is = record {
-    walked = walked-stays visit is.walked;
-    to = IsWayIn-stay env mix G G' grow visit.bucket is.walked.of.table way is.walked.of.attached is.to;
-  }
+  way-stays : (visit : Visit) (way : PlaceModel) → ((at : IsAt G visit.table) → low ≤ at.table) → IsOnWayTo env mix G visit way
+      → IsOnWayTo env mix G' visit way
+  way-stays visit way from is =
+      let of = is.walked.of in
+      record {
+        walked = walked-stays visit from is.walked;
+        to = IsWayIn-from env mix low G G' grow visit.bucket of.table way of.attached (from of) is.to;
+      }
 
-  bucket-stays : (visit : Visit) (place : ℕ) → IsAtBucket env mix G visit place → IsAtBucket env mix G' visit place
-  bucket-stays visit place is = record {
-    walked = walked-stays visit is.walked;
-    here = (grow.tables is.walked.of.table is.walked.of.attached).places visit.bucket (word_index env mix place) is.here;
-  }
+  bucket-stays : (visit : Visit) (place : ℕ) → ((at : IsAt G visit.table) → low ≤ at.table) → IsAtBucket env mix G visit place
+      → IsAtBucket env mix G' visit place
+  bucket-stays visit place from is =
+      let of = is.walked.of in
+      record {
+        walked = walked-stays visit from is.walked;
+        here = grow.places of.table visit.bucket (word_index env mix place) of.attached (from of) is.here;
+      }
 
-  pub walk-stays : (state : WalkAt) → tied_of_walk env mix G state → tied_of_walk env mix G' state
-  walk-stays at.Opening tied = tt
-  walk-stays at.CurrentTable tied = tt
-  walk-stays (at.Serial table) tied = at-stays env mix G G' grow table tied
-  walk-stays (at.Shape table serial) tied = at-stays env mix G G' grow table tied
-  walk-stays (at.Entry visit way) tied = way-stays visit way tied
-  walk-stays (at.Heading visit place) tied = bucket-stays visit place tied
-  walk-stays (at.Key chain node) tied = walked-stays chain.visit tied
-  walk-stays (at.Owner chain node port) tied = walked-stays chain.visit tied
-  walk-stays (at.Link chain node) tied = walked-stays chain.visit tied
-  walk-stays (at.StrangeEnd visit) tied = walked-stays visit tied
-  walk-stays (at.TableEnd table) tied = tt
-  walk-stays (at.Closing end) tied = tt
+  pub walk-stays : (state : WalkAt) → AreFrom low G (standing_of_walk state).tables → tied_of_walk env mix G state
+      → tied_of_walk env mix G' state
+  walk-stays at.Opening from tied = tt
+  walk-stays at.CurrentTable from tied = tt
+  walk-stays (at.Serial table) from tied = at-from env mix low G G' grow table tied (from table (inl refl) tied)
+  walk-stays (at.Shape table serial) from tied = at-from env mix low G G' grow table tied (from table (inl refl) tied)
+  walk-stays (at.Entry visit way) from tied = way-stays visit way (from visit.table (inl refl)) tied
+  walk-stays (at.Heading visit place) from tied = bucket-stays visit place (from visit.table (inl refl)) tied
+  walk-stays (at.Key chain node) from tied = walked-stays chain.visit (from chain.visit.table (inl refl)) tied
+  walk-stays (at.Owner chain node port) from tied = walked-stays chain.visit (from chain.visit.table (inl refl)) tied
+  walk-stays (at.Link chain node) from tied = walked-stays chain.visit (from chain.visit.table (inl refl)) tied
+  walk-stays (at.StrangeEnd visit) from tied = walked-stays visit (from visit.table (inl refl)) tied
+  walk-stays (at.TableEnd table) from tied = tt
+  walk-stays (at.Closing end) from tied = tt
 
 -- ---- an operation
 
@@ -114,17 +123,14 @@ module _ (env : Env) (mix : ℕ → ℕ → ℕ → ℕ) (words : List ℕ) (G :
   current_attached : IsAt G (table_of (M CurrentTable))
   current_attached =
       let right = whole.tables.each G.current (current-there env mix whole.tables) in
-      record {
-        table = G.current;
-        attached = whole.tables.current_in;
-        slot_is = let word = whole.tables.current_is in omega (arith, right.slot_in, word);
-      }
+      current-at env mix whole.tables (table_of (M CurrentTable))
+      (let word = whole.tables.current_is in omega (arith, right.slot_in, word))
 
   module _ (from : Option Cursor) (limit shown : ℕ) where
     visiting-tied : (visit : Visit) → IsVisitIn visit → IsWalked env mix G visit → Tied (visiting env.geometry visit)
     visiting-tied visit within is =
         let τ = is.of.table in
-        let is_there = at-there env mix whole.tables visit.table is.of in
+        let is_there = at-there is.of in
         let number = visit.bucket in
         cond_both (is_nested visit.shape) _ _ Tied
         (λ nested. record {
@@ -195,7 +201,7 @@ module _ (env : Env) (mix : ℕ → ℕ → ℕ → ℕ) (words : List ℕ) (G :
       below = number_below visit within is.walked
 
       is_there : IsThere G τ
-      is_there = at-there env mix whole.tables visit.table is.walked.of
+      is_there = at-there is.walked.of
 
       abbrev led_by : Option ℕ
       led_by = page_of env.geometry.pages (M (PageWord way.entry))

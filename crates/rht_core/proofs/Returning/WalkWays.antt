@@ -90,7 +90,7 @@ module _ (env : Env) (mix : ℕ → ℕ → ℕ → ℕ) (words : List ℕ) (G :
     slot = visit.table;
     there = at_table visit.table (inl refl);
     table = tied.walked.of.table;
-    is_there = at-there env mix whole.tables visit.table tied.walked.of;
+    is_there = at-there tied.walked.of;
     slot_is = tied.walked.of.slot_is;
     number = visit.bucket;
     below = number_below env mix words G whole visit within.visit_in tied.walked;
@@ -157,7 +157,7 @@ module _ (env : Env) (mix : ℕ → ℕ → ℕ → ℕ) (words : List ℕ) (G :
         table = τ;
         of =
             (place-word env mix (mem env mix words) G whole τ visit.bucket (word_index env mix place)
-            (at-there env mix whole.tables visit.table tied.walked.of)
+            (at-there tied.walked.of)
             (number_below env mix words G whole visit within.visit_in tied.walked) tied.here).of;
         there =
             subst (ReachesTable env.geometry words (standing_of_walk (at.Heading visit place)))

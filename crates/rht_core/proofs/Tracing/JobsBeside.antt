@@ -20,7 +20,7 @@ module _ (M : Type 0) (mix : ℕ → ℕ → ℕ → ℕ) (env : Env) (events : 
     pub record KeepsBeside (c : ℕ) : Type 0 where
       pub begins : (call : Call) (job : Job) → IsFirstJob env call job → Now job []
       pub goes : (job : Job) (steps : List Did) (did : Did) (performs : Performs mix env job did) → performs.caller ≡ c
-          → StandsIn mix env (words_before M mix env events) job did performs → First job steps → Now job steps
+          → StandsIn mix env (words_before M mix env events) job steps did performs → First job steps → Now job steps
           → LeadsOn M mix env Now Ended job (steps ++ did ∷ []) (job_after mix env job did.old)
 
     abbrev Both : Job → List Did → Type 0

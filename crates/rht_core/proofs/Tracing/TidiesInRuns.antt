@@ -442,7 +442,7 @@ module _ (M : Type 0) (mix : ℕ → ℕ → ℕ → ℕ) (env : Env) where
     keeps_so : IsKeptTraced M mix env KeepsSoFar
     keeps_so = record {
       opens = λ k mine rest all. record { past = tt; asked = λ is. absurd (cc); now = λ m is. absurd (cc) };
-      stays = λ so_far event k view trace keeps mine rest all. keeps mine (event ∷ rest) (next_event so_far event rest all);
+      stays = λ so_far event k view trace section keeps mine rest all. keeps mine (event ∷ rest) (next_event so_far event rest all);
       begins = λ so_far k call machine index view trace at now idle is keeps mine rest all.
           let next = next_event so_far (Begin k call) rest all in
           begin-keeps so_far (Begin k call ∷ rest) call machine index view trace next at

@@ -2,13 +2,15 @@
 -- caller that begins a call, by one that makes an operation, and by one that sees another event come.
 -- It may speak of the events so far. What holds of callers one at a time is shown by this one induction
 -- over the events: no event of another caller is seen, and what is recorded at an event was so there.
-use Rattle.std.proofs.Common.{◌≡◌, ℕ, inl, inr, true, List, [], ◌∷◌, ◌++◌, length, take, refl, sym, ap, ◌∙◌, subst}
+use Rattle.std.proofs.Common.{◌≡◌, ℕ, inl, inr, true, List, [], ◌∷◌, ◌++◌, ◌<◌, ◌≢◌, length, take, refl, sym, ap, ◌∙◌, subst, arith}
 use Rattle.std.specs.Prelude.{Option, Some, None}
 use Rattle.std.specs.List.{slice_get}
 use Rattle.std.proofs.lemmas.Bool.{cases_eq}
 use Rattle.rht_words.specs.declared.op.Op.{Op}
 use Rattle.rht_words.specs.declared.env.Env.{Env}
-use Rattle.rht_words.specs.Operations.{old_of}
+use Rattle.rht_words.specs.declared.op.Op.TheVariants.{Add}
+use Rattle.rht_words.specs.Operations.{old_of, applied}
+use Rattle.rht_words.specs.Places.{Section, place_of, word_at}
 use Rattle.rht_words.proofs.EachElement.{AllByRecursion-cut, each_replicate, slice_get-push_last}
 use Rattle.rht_model.specs.declared.history.Call.{Call}
 use Rattle.rht_model.specs.declared.history.Reply.{Reply}
@@ -26,8 +28,9 @@ use Rattle.rht_core.proofs.Events.SoundRuns.{StaysIn, runs-in, made_in, has_plac
 use Rattle.rht_ghost.proofs.Theory.Ghosts.{Ghost}
 use Rattle.rht_core.proofs.Events.Invariants.{Inv, StepOf, step_of}
 use Rattle.rht_core.proofs.Events.InvariantRuns.{HasInv, has_inv}
-use Rattle.rht_core.proofs.Events.RangesInRuns.{AllIn}
+use Rattle.rht_core.proofs.Events.RangesInRuns.{AllIn, event-all}
 use Rattle.rht_core.proofs.Events.TablesThere.{TablesStayed, has_tables}
+use Rattle.rht_core.proofs.Returning.SectionWords.{step_same, IsOthers, others_same}
 use Rattle.rht_core.proofs.Tracing.TracedRuns.{no_trace, traced_of-push, world-traced_of, count-traced_of, trace_with, trace_begin_none, trace_begin_self, trace_begin_other, trace_step_none, trace_step_self, trace_step_other}
 
 module _ (M : Type 0) (mix : ℕ → ℕ → ℕ → ℕ) (env : Env) where
@@ -64,8 +67,11 @@ module _ (M : Type 0) (mix : ℕ → ℕ → ℕ → ℕ) (env : Env) where
     pub reply :
         reply_of c (run_of mix env (take did.index (events ++ Step c ∷ []))) ≡ (local_after mix local
         did.old).1
-    -- each slot that had a table has it
-    pub stayed : TablesStayed env mix (words_before M mix env events) known.ghost (length events)
+    -- the caller's section word stays, unless the operation turns it
+    pub section : did.op ≢ Add (place_of env.geometry (Section c)) 1
+        → word_at env.geometry (applied known.core.words did.op) (Section c) ≡ word_at env.geometry known.core.words (Section c)
+    -- each slot that had a table to which the caller's section comes has it
+    pub stayed : TablesStayed env mix (words_before M mix env events) c known.ghost (length events)
 
   -- before the last event the world is the one that the events before it leave
   world_now : (events : List Event) (event : Event)
@@ -126,17 +132,38 @@ module _ (M : Type 0) (mix : ℕ → ℕ → ℕ → ℕ) (env : Env) where
         reply =
             ap (reply_of c) (world_now events (Step c))
             ∙ ap (λ (o : Option Op). (with_step mix core c o).1.reply) is;
-        stayed = has.stayed;
+        section = λ apart.
+            let of = step_of env mix M core has.ghost c op all inv is in
+            step_same env mix M core has.ghost c op all (event-all M mix env (R events).world (Step c) (let few = of.few in omega (arith, few)) all) of is c of.few
+            (λ same. apart);
+        stayed = has.stayed c (step_of env mix M core has.ghost c op all inv is).few;
       }
+
+  -- the event leaves the caller's section word
+  abbrev pub SectionStays : List Event → Event → ℕ → Type 0
+  SectionStays events event c =
+      c < 16
+      → word_at env.geometry (world_step mix (R events).world event).core.words (Section c)
+      ≡ word_at env.geometry (R events).world.core.words (Section c)
+
+  -- as each does that is none of its operations
+  pub section_stays : (events : List Event) → IsAdmitted env.config.kind events → (event : Event) → IsAdmittedEvent env.config.kind event → (c : ℕ)
+      → IsOthers env mix M (R events).world.core event c → SectionStays events event c
+  section_stays events admitted event may c others few =
+      let has = inv_now events admitted in
+      others_same env mix M (R events).world.core has.ghost event has.all (event-all M mix env (R events).world event may has.all)
+      has.inv c few others
 
   -- ---- what callers keep
 
   module _ (P : List Event → ℕ → View M → Trace → Type 0) where
-    -- what is kept of a caller and its trace behind these events
-    pub record IsKeptTraced : Type 0 where
+    -- what is kept of a caller and its trace behind these events, where the event that comes next is none of its operations
+    pub record IsKeptBeside : Type 0 where
       pub opens : (c : ℕ) → P [] c (record { local = fresh env; book = new_book }) no_trace
       pub stays : (events : List Event) (event : Event) (c : ℕ) (view : View M) (trace : Trace)
-          → P events c view trace → P (events ++ event ∷ []) c view trace
+          → IsAdmitted env.config.kind events → IsAdmittedEvent env.config.kind event
+          → IsOthers env mix M (R events).world.core event c → view ≡ view_of (R events).world c → P events c view trace
+          → P (events ++ event ∷ []) c view trace
       pub begins : (events : List Event) (c : ℕ) (call : Call) (machine : Doing M) (index : ℕ)
           (view : View M) (trace : Trace)
           → index ≡ length events → view_of (R events).world c ≡ view
@@ -153,7 +180,7 @@ module _ (M : Type 0) (mix : ℕ → ℕ → ℕ → ℕ) (env : Env) where
     abbrev AllKeep : List Event → Traced M → Type 0
     AllKeep events r = (k : ℕ) → P events k (view_of r.world k) (r.traces k)
 
-    module _ (kept : IsKeptTraced) (events : List Event) (admitted : IsAdmitted env.config.kind events)
+    module _ (kept : IsKeptBeside) (events : List Event) (admitted : IsAdmitted env.config.kind events)
         (each : AllKeep events (R events)) where
       abbrev r : Traced M
       r = R events
@@ -166,20 +193,21 @@ module _ (M : Type 0) (mix : ℕ → ℕ → ℕ → ℕ) (env : Env) where
           subst (P more c before) (sym trace_is) (subst (λ s. P more c s trace) (sym seen_is) p)
 
       -- where they are as before
-      stay : (event : Event) (k : ℕ) (here : View M) (trace : Trace) → here ≡ view_of r.world k
+      stay : (event : Event) → IsAdmittedEvent env.config.kind event → (k : ℕ) (here : View M) (trace : Trace)
+          → IsOthers env mix M r.world.core event k → here ≡ view_of r.world k
           → trace ≡ r.traces k
           → P (events ++ event ∷ []) k here trace
-      stay event k here trace seen_is trace_is =
+      stay event may k here trace others seen_is trace_is =
           put (events ++ event ∷ []) k (view_of r.world k) here trace (r.traces k) seen_is trace_is
-          (kept.stays events event k (view_of r.world k) (r.traces k) (each k))
+          (kept.stays events event k (view_of r.world k) (r.traces k) admitted may others refl (each k))
 
-      begins : (c : ℕ) (call : Call) (machine : Option (Doing M))
+      begins : (c : ℕ) (call : Call) (machine : Option (Doing M)) → IsAdmittedEvent env.config.kind (Begin c call)
           → beginning_in r.world.core c call ≡ machine
           → AllKeep (events ++ Begin c call ∷ []) (traced_step mix r (Begin c call))
-      begins c call None is k =
-          stay (Begin c call) k _ _ (ap (λ (v : World M). view_of v k) (begin_none M mix r.world c call is))
+      begins c call None may is k =
+          stay (Begin c call) may k _ _ tt (ap (λ (v : World M). view_of v k) (begin_none M mix r.world c call is))
           (ap (λ (t : ℕ → Trace). t k) (trace_begin_none M mix r c call is))
-      begins c call (Some machine) is k =
+      begins c call (Some machine) may is k =
           let more = events ++ Begin c call ∷ [] in
           let can = beginning-some r.world.core.env r.world.core.enrolled r.world.core.locals c call
           machine is in
@@ -198,16 +226,16 @@ module _ (M : Type 0) (mix : ℕ → ℕ → ℕ → ℕ) (env : Env) where
                 (kept.begins events c call machine r.count (view_of r.world c) (r.traces c)
                 (count-traced_of M mix env events) refl can.idle made (each c)))
             | inr other ↦
-                stay (Begin c call) k _ _ (begin_other M mix r.world c call k other)
+                stay (Begin c call) may k _ _ tt (begin_other M mix r.world c call k other)
                 (trace_begin_other M mix r c call k other)
           ]
 
-      steps : (c : ℕ) (op : Option Op) → planned_by c r.world ≡ op
+      steps : (c : ℕ) (op : Option Op) → IsAdmittedEvent env.config.kind (Step c) → planned_by c r.world ≡ op
           → AllKeep (events ++ Step c ∷ []) (traced_step mix r (Step c))
-      steps c None is k =
-          stay (Step c) k _ _ (ap (λ (v : World M). view_of v k) (step_none M mix r.world c is))
+      steps c None may is k =
+          stay (Step c) may k _ _ (inr is) (ap (λ (v : World M). view_of v k) (step_none M mix r.world c is))
           (ap (λ (t : ℕ → Trace). t k) (trace_step_none M mix r c is))
-      steps c (Some op) is k =
+      steps c (Some op) may is k =
           let more = events ++ Step c ∷ [] in
           let can = planned-some r.world.core.env r.world.core.enrolled r.world.core.locals c op is in
           let did = did_next events op in
@@ -222,27 +250,56 @@ module _ (M : Type 0) (mix : ℕ → ℕ → ℕ → ℕ) (env : Env) where
                 (kept.steps events c did (view_of r.world c) (r.traces c)
                 (did_next-made events c op admitted is) (each c)))
             | inr other ↦
-                stay (Step c) k _ _ (step_other M mix r.world c k other) (trace_step_other M mix r c k other)
+                stay (Step c) may k _ _ (inl other) (step_other M mix r.world c k other) (trace_step_other M mix r c k other)
           ]
 
       -- an event keeps it of every caller
-      event_keeps : (event : Event) → AllKeep (events ++ event ∷ []) (traced_step mix r event)
-      event_keeps Enroll k = stay Enroll k _ _ refl refl
-      event_keeps (Begin c call) k =
-          begins c call (beginning_in r.world.core c call) refl k
-      event_keeps (Step c) k = steps c (planned_by c r.world) refl k
+      event_keeps : (event : Event) → IsAdmittedEvent env.config.kind event → AllKeep (events ++ event ∷ []) (traced_step mix r event)
+      event_keeps Enroll may k = stay Enroll may k _ _ tt refl refl
+      event_keeps (Begin c call) may k =
+          begins c call (beginning_in r.world.core c call) may refl k
+      event_keeps (Step c) may k = steps c (planned_by c r.world) may refl k
 
     -- so it holds of every caller in every run
-    pub traced_callers_keep : IsKeptTraced → (events : List Event) (c : ℕ) → IsAdmitted env.config.kind events
+    pub traced_callers_keep_beside : IsKeptBeside → (events : List Event) (c : ℕ) → IsAdmitted env.config.kind events
         → P events c (view_of (R events).world c) ((R events).traces c)
-    traced_callers_keep kept events c admitted =
+    traced_callers_keep_beside kept events c admitted =
         induct_by_last (λ es. IsAdmitted env.config.kind es → AllKeep es (R es))
         (λ none k.
         each_replicate (λ (local : Local M). P [] k (record { local = local; book = new_book }) no_trace)
         env.geometry.callers k (fresh env)
         (kept.opens k))
         (λ es event each all.
-        let before = (AllByRecursion-cut (IsAdmittedEvent env.config.kind) es (event ∷ []) all).0 in
+        let parts = AllByRecursion-cut (IsAdmittedEvent env.config.kind) es (event ∷ []) all in
         subst (AllKeep (es ++ event ∷ [])) (sym (traced_of-push M mix env es event))
-        (event_keeps kept es before (each before) event))
+        (event_keeps kept es parts.0 (each parts.0) event parts.1.0))
         events admitted c
+
+    -- where it is enough that such an event leaves the caller's section word
+    pub record IsKeptTraced : Type 0 where
+      pub opens : (c : ℕ) → P [] c (record { local = fresh env; book = new_book }) no_trace
+      pub stays : (events : List Event) (event : Event) (c : ℕ) (view : View M) (trace : Trace)
+          → SectionStays events event c → P events c view trace → P (events ++ event ∷ []) c view trace
+      pub begins : (events : List Event) (c : ℕ) (call : Call) (machine : Doing M) (index : ℕ)
+          (view : View M) (trace : Trace)
+          → index ≡ length events → view_of (R events).world c ≡ view
+          → is_idle view.local ≡ true → machine_of env c view.local.batch call ≡ Some machine
+          → P events c view trace
+          → P (events ++ Begin c call ∷ []) c (view_begun call machine view) (trace_begun index trace)
+      pub steps : (events : List Event) (c : ℕ) (did : Did) (view : View M) (trace : Trace)
+          → IsMade events c view.local did
+          → P events c view trace
+          → let next = local_after mix view.local did.old in
+          P (events ++ Step c ∷ []) c (view_stepped mix did.old view)
+          (trace_did view.book.call did (ending_of next.0 next.1) trace)
+
+    pub traced_callers_keep : IsKeptTraced → (events : List Event) (c : ℕ) → IsAdmitted env.config.kind events
+        → P events c (view_of (R events).world c) ((R events).traces c)
+    traced_callers_keep kept =
+        traced_callers_keep_beside record {
+          opens = kept.opens;
+          stays = λ events event c view trace admitted may others here p.
+              kept.stays events event c view trace (section_stays events admitted event may c others) p;
+          begins = kept.begins;
+          steps = kept.steps;
+        }

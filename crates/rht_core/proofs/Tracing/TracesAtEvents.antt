@@ -243,7 +243,7 @@ module _ (M : Type 0) (mix : ℕ → ℕ → ℕ → ℕ) (env : Env) where
       traced_callers_keep M mix env (λ events c here trace. Holds events c here.book.call trace)
       record {
         opens = λ c. record { past = tt; in_order = tt; past_ends = omega arith; steps = tt; progress = tt };
-        stays = λ events event c here trace holds. holds-more events event c here.book.call trace holds;
+        stays = λ events event c here trace section holds. holds-more events event c here.book.call trace holds;
         begins =
             λ events c call machine index here trace now same idle made holds. begin-holds events c call
             here.book.call trace index now holds;

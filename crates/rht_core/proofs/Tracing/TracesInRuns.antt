@@ -51,7 +51,7 @@ traces_of_books M mix env =
     traced_callers_keep M mix env (λ past c here trace. IsTraceOf here.book trace)
     record {
       opens = λ c. record { past = refl; steps = refl };
-      stays = λ past event c here trace of. of;
+      stays = λ past event c here trace section of. of;
       begins = λ past c call machine index here trace now same idle made of. begun-of index call here.book
           trace of;
       steps = λ past c did here trace made of.

@@ -65,7 +65,7 @@ module _ (env : Env) (mix : ℕ → ℕ → ℕ → ℕ) where
       let M = mem env mix words in
       let τ = at_slot.table in
       let table = G.table τ in
-      let there = at-there env mix whole.tables slot at_slot in
+      let there = at-there at_slot in
       let right = whole.tables.each τ there in
       let shape : M (Slot slot ShapeWord) ≡ table.shape =
       ap (λ s. M (Slot s ShapeWord)) (sym at_slot.slot_is) ∙ right.shape_is in

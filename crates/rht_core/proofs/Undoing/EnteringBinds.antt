@@ -66,7 +66,7 @@ module _ (env : Env) (mix : ℕ → ℕ → ℕ → ℕ) (c : ℕ) (M : Memory) 
 
     grow-came : (port table shape : ℕ) (place : PlaceModel) (grow : GrowModel) (state : GrowAt)
         → place.geometry ≡ g → grow.entry ≡ entry_place place
-        → TableMeans env mix G (known_growing port table shape place state)
+        → TableMeans env mix c G (known_growing port table shape place state)
         → did.op ≡ grow_plan_at grow.entry state → CameTo g table steps → CameToEntry
     grow-came port table shape place grow (grows.Taking take) same there means is came =
         absurd (take-none env mix c M G did entry page exchanges take take.at (sym is ∙ exchanges))

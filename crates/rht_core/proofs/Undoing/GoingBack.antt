@@ -21,7 +21,7 @@ use Rattle.rht_nest.specs.Tables.{pages_of_shape}
 use Rattle.rht_core.specs.Traces.{Did}
 use Rattle.rht_core.specs.Seen.{CameTo}
 use Rattle.rht_core.specs.Refused.{turned, turns, IsTableWord, StoresLast, MayAttach}
-use Rattle.rht_ghost.proofs.Theory.Ghosts.{Ghost, PageHeld, table_at}
+use Rattle.rht_ghost.proofs.Theory.Ghosts.{Ghost, PageHeld, SlotHeld, table_at}
 use Rattle.rht_ghost.proofs.Theory.Wholes.{place_at, Whole}
 use Rattle.rht_ghost.proofs.Theory.Steps.{bare, Holding, LeavesBits, mem}
 use Rattle.rht_core.proofs.Undoing.TurnedBits.{node_bit, locked_bit, work_bit, slot_bit, pages_bit, section_bit, held_bits}
@@ -67,7 +67,7 @@ pub record MayEnter (g : Geometry) (call : Call) (steps : List Did) (G : Ghost) 
   pub came : CameTo g (G.table (table_at G entry)).slot steps
 
 -- The call may be refused before an operation and behind it, where it holds this: it has raised no count, and moves
--- nothing. Where it has a lock and no node, the operation leaves its word, or drops the lock. Its pages are its own,
+-- nothing. Where it has a lock and no node, the operation leaves its word, or drops the lock. Its slot and its pages are its own,
 -- and it attaches and enters only what it may.
 pub record MayGoBack (g : Geometry) (call : Call) (steps : List Did) (did : Did) (before after : Holding)
     (c : ℕ) (G : Ghost) : Type 0 where
@@ -77,6 +77,7 @@ pub record MayGoBack (g : Geometry) (call : Call) (steps : List Did) (did : Did)
   pub still_then : after.moving ≡ false
   pub locked_leaves : before.lock ≢ None → before.node ≡ None
       → LeavesBits did.op did.old ⊎ (after.lock ≡ None)
+  pub slot_mine : (slot : ℕ) → before.slot ≡ Some slot → G.slot slot ≡ SlotHeld c
   pub mine : (page : ℕ) → In page before.pages → G.page page ≡ PageHeld c
   pub attaches : (last slot : ℕ) → last < 8
       → did.op ≡ Exchange (place_of g (Slot last FutureWord)) 0 (future_of slot) → before.slot ≡ Some slot

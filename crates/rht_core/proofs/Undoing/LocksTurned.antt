@@ -1,5 +1,5 @@
 -- What an operation does to locks: it turns the lowest bit of the work lock, or of a page's word, just where the caller holds this lock
--- behind it and didn't before, or the other way round; but for an entry at which it enters a page.
+-- behind it and didn't before, or the other way round; but for an entry at which it enters a page, or which it clears in giving a table back.
 use Rattle.std.proofs.Common.{◌≡◌, ◌≢◌, ◌⊎◌, ℕ, ◌+◌, ◌*◌, ◌/◌, ◌%◌, ◌<◌, ◌≤◌, ◌==◌, ◌&&◌, true, false, List, [], length, Option, Some, None, refl, sym, ap, ◌∙◌, subst, inl, inr, arith}
 use Rattle.std.specs.Int.{bit_at}
 use Rattle.std.proofs.lemmas.Bool.{cases_eq, eq-eqb}
@@ -18,12 +18,12 @@ use Rattle.rht_arena.specs.Laws.{map_place}
 use Rattle.rht_arena.specs.RunLaws.{page_place}
 use Rattle.rht_core.specs.Traces.{Did}
 use Rattle.rht_core.specs.Refused.{turned}
-use Rattle.rht_ghost.proofs.Theory.Ghosts.{put-same, Ghost, PageOwner, PageFree, PageHeld, lock_bit, has_bit, is_entry}
+use Rattle.rht_ghost.proofs.Theory.Ghosts.{put-same, Ghost, PageOwner, PageFree, PageHeld, PageOf, lock_bit, has_bit, is_entry}
 use Rattle.rht_ghost.proofs.Theory.Wholes.{place_at, Whole}
 use Rattle.rht_ghost.proofs.Theory.Passed.{held-no_entry}
 use Rattle.rht_ghost.proofs.Theory.Readiness.{Change, changed, linked, linked_bucket, IsRebinding, ArePagesOf, IsEntering}
 use Rattle.rht_ghost.proofs.Theory.Departures.{arrived, cut_off, cut_by}
-use Rattle.rht_ghost.proofs.Theory.Steps.{bare, Holding, mem, IsAside, DoesQuiet, DoesTakeLock, DoesDropLock, DoesTakeSecond, DoesTakeWork, DoesGiveWork, DoesRebind, DoesEnter, Does, ReadyFor, ghost_after, Move, Quiet, TakesNode, GivesNode, TakesLock, DropsLock, Raises, Links, Lowers, Rebinds, LinksBehind, Arms, TakesSlot, GivesSlot, TakesPages, GivesPages, Attaches, Enters, TakesWork, GivesWork, BeginsMoving, TakesSecond, Leaves, Arrives, CutsOff, Publishes, Retires, Opens, Closes, ReturnsNode}
+use Rattle.rht_ghost.proofs.Theory.Steps.{bare, Holding, mem, IsAside, DoesQuiet, DoesTakeLock, DoesDropLock, DoesTakeSecond, DoesTakeWork, DoesGiveWork, DoesRebind, DoesEnter, Does, ReadyFor, ghost_after, Move, Quiet, TakesNode, GivesNode, TakesLock, DropsLock, Raises, Links, Lowers, Rebinds, LinksBehind, Arms, TakesSlot, GivesSlot, TakesPages, GivesPages, Attaches, Enters, TakesWork, GivesWork, BeginsMoving, TakesSecond, Leaves, Arrives, CutsOff, Publishes, Retires, KeepsWord, Settles, Withdraws, TakesBack, Opens, Closes, ReturnsNode, DoesKeepWord}
 use Rattle.rht_ghost.proofs.Moves.Relinking.{last_in}
 use Rattle.rht_ghost.proofs.Pieces.Rebounds.{node_before_pages}
 use Rattle.rht_core.proofs.Undoing.TurnedBits.{one_bit, one_bit-here, one_bit-far, turned-far, turned-here, turned-none, turned-same, turned-one, sets_lowest, clears_lowest, locked_bit, work_bit}
@@ -303,9 +303,9 @@ module _ {env : Env} {mix : ℕ → ℕ → ℕ → ℕ} (step : Turning env mix
   turn_pages : (index bits : ℕ) (owner : PageOwner) → ArePagesOf env mix step.ghost index bits owner
       → op_place step.did.op ≡ place_of g (PageMap index)
       → (bit_at bits 0 ≢ 1 → bit_at (word_after step.did.old step.did.op) 0 ≡ bit_at step.did.old 0)
-      → bare step.after ≡ record (bare step.before) { pages = step.after.pages }
+      → {then : Holding} → bare step.after ≡ then → ((place : ℕ) → lock_bits g then place ≡ lock_bits g step.before place)
       → (place : ℕ) → IsLockPlace g place → TurnsEvenly place
-  turn_pages index bits owner are on leaves holds place is = elim (cases_eq (bit_at bits 0) 1) [
+  turn_pages index bits owner are on leaves holds same place is = elim (cases_eq (bit_at bits 0) 1) [
     | inl set ↦
         let page = 64 * index in
         let at : page / 64 ≡ index = omega arith in
@@ -315,9 +315,8 @@ module _ {env : Env} {mix : ℕ → ℕ → ℕ → ℕ} (step : Turning env mix
         ∙ ap (λ t. t && (bit_at bits (page % 64) == 1)) (eq-eqb index index refl)
         ∙ ap (λ b. bit_at bits b == 1) low ∙ eq-eqb (bit_at bits 0) 1 set in
         off (subst (IsOff g) (sym (on ∙ ap (λ i. place_of g (PageMap i)) (sym at))) (page_map-off g page (are.among page has)))
-        holds (λ p. refl) place is
-    | inr unset ↦
-        unturned_at place (turned-same place 0 step.did (λ here. leaves unset)) (same_locks holds (λ p. refl) place)
+        holds same place is
+    | inr unset ↦ unturned_at place (turned-same place 0 step.did (λ here. leaves unset)) (same_locks holds same place)
   ]
 
   -- a store that changes bindings
@@ -352,80 +351,95 @@ module _ {env : Env} {mix : ℕ → ℕ → ℕ → ℕ} (step : Turning env mix
       locked (inr (inl replaces)) = replaces.locked
       locked (inr (inr shortens)) = shortens.locked
 
+  -- a section word is kept in a slot
+  keep_word : (s d word : ℕ) → DoesKeepWord g s d word step.did.op step.before (bare step.after) → (place : ℕ) → IsLockPlace g place
+      → TurnsEvenly place
+  keep_word s d word does place is =
+      let low = does.within in
+      let few = does.caller_in in
+      off (subst (IsOff g) (sym (ap op_place does.keeping)) (below_slots g _ (omega arith) (omega (arith, low, few)))) does.holds
+      (λ p. refl) place is
+
   -- the operation enters a page here, or it turns the lowest bit where what the call holds there becomes another
-  pub turns_evenly : (move : Move) → ReadyFor env mix step.caller (mem env mix step.words) step.ghost move
+  pub turns_evenly : (move : Move) → ((j p : ℕ) → move ≡ Withdraws j p → ⊥) → ReadyFor env mix step.caller (mem env mix step.words) step.ghost move
       → Whole env mix (mem env mix (applied step.words step.did.op)) (ghost_after env mix step.caller move step.ghost)
       → Does env mix move step.did.op step.did.old step.before step.after → (place : ℕ) → IsLockPlace g place
       → EntersHere place ⊎ TurnsEvenly place
-  turns_evenly Quiet ready then does place is = inr (quiet does place is)
-  turns_evenly (Arms j) ready then does place is = inr (quiet does place is)
-  turns_evenly (TakesNode n) ready then does place is =
+  turns_evenly Quiet other ready then does place is = inr (quiet does place is)
+  turns_evenly (Arms j) other ready then does place is = inr (quiet does place is)
+  turns_evenly (TakesNode n) other ready then does place is =
       inr (off (subst (IsOff g) (sym does.taking.clears.place) (node_map-off g n does.taking.within)) does.holds (λ p. refl) place is)
-  turns_evenly (GivesNode n) ready then does place is =
+  turns_evenly (GivesNode n) other ready then does place is =
       inr (off (subst (IsOff g) (sym (ap op_place does.giving)) (node_map-off g n (step.node_in n does.has))) does.holds (λ p. refl) place is)
-  turns_evenly (ReturnsNode n) ready then does place is =
+  turns_evenly (ReturnsNode n) other ready then does place is =
       inr (off (subst (IsOff g) (sym (ap op_place does.giving)) (node_map-off g n does.among)) does.holds (λ p. refl) place is)
-  turns_evenly (TakesLock j) ready then does place is = inr (take_lock j does place)
-  turns_evenly (DropsLock j) ready then does place is = inr (drop_lock j does place)
-  turns_evenly Raises ready then does place is =
+  turns_evenly (TakesLock j) other ready then does place is = inr (take_lock j does place)
+  turns_evenly (DropsLock j) other ready then does place is = inr (drop_lock j does place)
+  turns_evenly Raises other ready then does place is =
       inr (off (subst (IsOff g) (sym (ap op_place does.adds)) (first-off g 2 (λ e. cc) (omega arith))) does.holds (λ p. refl) place is)
-  turns_evenly Lowers ready then does place is =
+  turns_evenly Lowers other ready then does place is =
       inr (off (subst (IsOff g) (sym (ap op_place does.subtracts)) (first-off g 2 (λ e. cc) (omega arith))) does.holds (λ p. refl) place is)
-  turns_evenly (Links n port j) ready then does place is =
+  turns_evenly (Links n port j) other ready then does place is =
       inr (goes_first _ _ _ _ _ _
       (bucket_drops (linked step.ghost step.caller j n port) then j does.on refl (ap lock_bit ready.holder)
       (ap (λ b. b.holder) (put-same step.ghost.bucket j (linked_bucket (step.ghost.bucket j) n))) place is)
       (ap (λ l. locked_bit g l place 0) does.lock) (locks_then does.holds place))
-  turns_evenly (Rebinds change) ready then does place is = inr (rebinds change ready then does place is)
-  turns_evenly (LinksBehind n) ready then does place is =
+  turns_evenly (Rebinds change) other ready then does place is = inr (rebinds change ready then does place is)
+  turns_evenly (LinksBehind n) other ready then does place is =
       inr (off (subst (IsOff g) (sym does.on) (node-off g n ChainLink does.among)) does.holds (λ p. refl) place is)
-  turns_evenly (TakesSlot s) ready then does place is =
+  turns_evenly (TakesSlot s) other ready then does place is =
       inr (off (subst (IsOff g) (sym (ap op_place does.taking)) (slot-off g s StateWord does.within (inr refl))) does.holds (λ p. refl) place is)
-  turns_evenly (GivesSlot s) ready then does place is =
+  turns_evenly (GivesSlot s) other ready then does place is =
       inr (off (subst (IsOff g) (sym (ap op_place does.giving)) (slot-off g s StateWord does.within (inr refl))) does.holds (λ p. refl) place is)
-  turns_evenly (TakesPages index bits) ready then does place is =
-      inr (turn_pages index bits PageFree ready does.clears.on (λ unset. does.clears.others 0 (omega arith) unset) does.holds place is)
-  turns_evenly (GivesPages index bits) ready then does place is =
-      inr (turn_pages index bits (PageHeld step.caller) ready does.sets.on (λ unset. does.sets.others 0 (omega arith) unset) does.holds place is)
-  turns_evenly (Attaches slot shape seed serial) ready then does place is =
+  turns_evenly (TakesPages index bits) other ready then does place is =
+      inr (turn_pages index bits PageFree ready does.clears.on (λ unset. does.clears.others 0 (omega arith) unset) does.holds (λ p. refl) place is)
+  turns_evenly (GivesPages index bits) other ready then does place is =
+      inr (turn_pages index bits (PageHeld step.caller) ready does.sets.on (λ unset. does.sets.others 0 (omega arith) unset) does.holds (λ p. refl) place is)
+  turns_evenly (Attaches slot shape seed serial) other ready then does place is =
       inr (off (subst (IsOff g) (sym (ap op_place does.attaching)) (slot-off g does.last FutureWord does.within (inl tt))) does.holds (λ p. refl) place is)
-  turns_evenly (Enters j p) ready then does place is = elim (cases_eq place (place_of g (PageWord j))) [
+  turns_evenly (Enters j p) other ready then does place is = elim (cases_eq place (place_of g (PageWord j))) [
     | inl here ↦ inl (record { entry = j; page = p; ready = ready; does = does; here = here })
     | inr far ↦
         inr (unturned_at place (turned-far place 0 step.did (λ at. far (sym at ∙ ap op_place does.entering)))
         (same_locks does.holds (λ q. refl) place))
   ]
-  turns_evenly TakesWork ready then does place is = inr (take_work does place)
-  turns_evenly GivesWork ready then does place is = inr (give_work ready does place)
-  turns_evenly BeginsMoving ready then does place is =
+  turns_evenly TakesWork other ready then does place is = inr (take_work does place)
+  turns_evenly GivesWork other ready then does place is = inr (give_work ready does place)
+  turns_evenly BeginsMoving other ready then does place is =
       inr (unturned_at place (turned-same place 0 step.did (λ here. ap (λ w. bit_at w 0) does.leaves)) (same_locks does.holds (λ p. refl) place))
-  turns_evenly (TakesSecond j) ready then does place is = inr (take_second j does place)
-  turns_evenly (Leaves j i entry nodes) ready then does place is =
+  turns_evenly (TakesSecond j) other ready then does place is = inr (take_second j does place)
+  turns_evenly (Leaves j i entry nodes) other ready then does place is =
       let there : In entry (step.ghost.bucket j).nodes = subst (In entry) (sym ready.split) (in-middle entry nodes []) in
       let first = step.whole.owned.member j entry there in
       let among = (step.whole.owned.first_at entry j first).among in
       inr (off (subst (IsOff g) (sym does.on) (node-off g entry ChainLink among)) does.holds (λ p. refl) place is)
-  turns_evenly (Arrives j i entry) ready then does place is =
+  turns_evenly (Arrives j i entry) other ready then does place is =
       inr (goes_second _ _ _ _ _ _
       (bucket_drops (arrived step.ghost i entry) then i does.on refl (ap lock_bit ready.next.holder)
       (ap (λ b. b.holder) (put-same step.ghost.bucket i (linked_bucket (step.ghost.bucket i) entry))) place is)
       (ap (λ l. locked_bit g l place 0) does.has) (locks_then does.holds place))
-  turns_evenly (CutsOff j entry None) ready then does place is =
+  turns_evenly (CutsOff j entry None) other ready then does place is =
       let out = step.whole.moving.out j entry ready.out in
       inr (unturned_at place
       (bucket_stays (cut_off step.ghost j None) then j does.on refl (ap lock_bit out.holder)
       (ap (λ b. b.holder) (put-same step.ghost.bucket j (cut_by (step.ghost.bucket j) None))) place is)
       (same_locks does.holds (λ p. refl) place))
-  turns_evenly (CutsOff j entry (Some b)) ready then does place is =
+  turns_evenly (CutsOff j entry (Some b)) other ready then does place is =
       let there : In b (step.ghost.bucket j).nodes = last_in (step.ghost.bucket j).nodes b (sym ready.last) in
       let first = step.whole.owned.member j b there in
       let among = (step.whole.owned.first_at b j first).among in
       inr (off (subst (IsOff g) (sym does.on) (node-off g b ChainLink among)) does.holds (λ p. refl) place is)
-  turns_evenly Publishes ready then does place is =
+  turns_evenly Publishes other ready then does place is =
       inr (off (subst (IsOff g) (sym does.on) (first-off g 0 (λ e. cc) (omega arith))) does.holds (λ p. refl) place is)
-  turns_evenly (Retires s) ready then does place is =
+  turns_evenly (Retires s) other ready then does place is =
       inr (off (subst (IsOff g) (sym (ap op_place does.retiring)) (slot-off g s StateWord does.within (inr refl))) does.holds (λ p. refl) place is)
-  turns_evenly (Opens d) ready then does place is =
+  turns_evenly (KeepsWord s d word) other ready then does place is = inr (keep_word s d word does place is)
+  turns_evenly (Settles s d word) other ready then does place is = inr (keep_word s d word does place is)
+  turns_evenly (Withdraws j p) other ready then does place is = absurd (other j p refl)
+  turns_evenly (TakesBack s index bits) other ready then does place is =
+      inr (turn_pages index bits (PageOf ready.table) ready.own does.sets.on (λ unset. does.sets.others 0 (omega arith) unset) does.holds
+      (λ p. refl) place is)
+  turns_evenly (Opens d) other ready then does place is =
       inr (off (subst (IsOff g) (sym (ap op_place does.turns)) (section-off g d does.within)) does.holds (λ p. refl) place is)
-  turns_evenly (Closes d) ready then does place is =
+  turns_evenly (Closes d) other ready then does place is =
       inr (off (subst (IsOff g) (sym (ap op_place does.turns)) (section-off g d does.within)) does.holds (λ p. refl) place is)

@@ -1,8 +1,9 @@
--- An operation that changes an entry which leads to no page enters one there, and its call is a bind on the way to its port's bucket.
+-- An operation that changes an entry of a table enters a page there, and its call is a bind on the way to its port's bucket; or a resizing that
+-- gives back a retired table, to which nobody comes any more, clears the entry.
 --
--- The words of entries are those that the whole says, and of all moves the entering of a page alone makes other ones of them. The page is one
+-- The words of entries are those that the whole says, and of all moves these two alone make other ones of them. The page that is entered is one
 -- that the call has, and a bind alone exchanges an entry for a page of its own.
-use Rattle.std.proofs.Common.{◌≡◌, ◌≢◌, ℕ, ◌*◌, ◌/◌, ◌<◌, Bool, true, false, List, length, refl, sym, ap, ◌∙◌, subst, arith}
+use Rattle.std.proofs.Common.{◌≡◌, ◌≢◌, ◌⊎◌, ℕ, ◌+◌, ◌*◌, ◌/◌, ◌%◌, ◌<◌, ◌==◌, Bool, true, false, List, length, inl, inr, refl, sym, ap, ◌∙◌, subst, arith}
 use Rattle.rht_words.specs.declared.op.Op.TheVariants.{Store, Exchange}
 use Rattle.rht_words.specs.declared.env.Env.{Env}
 use Rattle.rht_words.specs.declared.geometry.Geometry.{Geometry}
@@ -10,7 +11,10 @@ use Rattle.rht_words.specs.Links.{entry_of}
 use Rattle.rht_words.specs.Members.{In}
 use Rattle.rht_words.specs.Operations.{op_place, old_of, word_after, applied}
 use Rattle.rht_words.specs.Places.{PageWord, place_of, words_in}
-use Rattle.std.proofs.lemmas.Bool.{both_ways}
+use Rattle.std.specs.Int.{bit_at}
+use Rattle.std.proofs.lemmas.Bool.{both_ways, cases_eq, and_from}
+use Rattle.std.proofs.lemmas.Bool.Decides.{nat_tests}
+use Rattle.std.proofs.lemmas.Nat.Bits.{same_from_bits_below}
 use Rattle.rht_words.proofs.Memory.{Memory, is_write}
 use Rattle.rht_words.proofs.PlacesApart.{parts_in_order}
 use Rattle.rht_nest.specs.Place.{PlaceModel}
@@ -32,12 +36,15 @@ use Rattle.rht_core.specs.Traces.{Did}
 use Rattle.rht_ghost.proofs.Theory.Ghosts.{PageOwner, PageFree, PageHeld, put_in, put_in-other, has_bit, with_pages, is_entry_of, table_of_page, Ghost, table_at, is_entry, entry_word}
 use Rattle.rht_ghost.proofs.Theory.Wholes.{Whole}
 use Rattle.rht_ghost.proofs.Theory.Readiness.{IsEntering, ArePagesOf}
+use Rattle.rht_ghost.proofs.Theory.Departures.{CanWithdraw}
 use Rattle.rht_ghost.proofs.Theory.Steps as steps
-use Rattle.rht_ghost.proofs.Theory.Steps.{mem, ghost_after, Holding, Does, DoesEnter, ReadyFor, Move, TakesPages, GivesPages, Enters}
+use Rattle.rht_ghost.proofs.Theory.Steps.{mem, ghost_after, Holding, Does, DoesEnter, DoesWithdraw, ReadyFor, Move, TakesPages, GivesPages, Enters, Withdraws, TakesBack}
 use Rattle.rht_core.proofs.Machines.JobSteps.{JobIn}
+use Rattle.rht_core.proofs.Machines.ReturnPlans.{returns-kind, no_exchange}
 use Rattle.rht_core.proofs.Machines.NeverHeld.{tableless, front-tableless, pageless}
 use Rattle.rht_core.proofs.Undoing.RefusableJobs.{take-none, make-enters, unmake-enters}
 use Rattle.rht_core.proofs.Undoing.EnteringBinds.{attaching-none}
+use Rattle.rht_core.proofs.Reasons.TableWordsKept.{FitBefore}
 
 -- ---- by each move
 
@@ -47,10 +54,16 @@ pub record EntersThere (env : Env) (mix : ℕ → ℕ → ℕ → ℕ) (c : ℕ)
   pub ready : IsEntering env mix c entry page G
   pub does : DoesEnter env.geometry entry page did.op did.old before (steps.bare after)
 
+-- it clears the entry, which led to this page of a table to which nobody comes
+pub record ClearsThere (env : Env) (mix : ℕ → ℕ → ℕ → ℕ) (c : ℕ) (G : Ghost) (did : Did) (before after : Holding) (entry : ℕ) : Type 0 where
+  pub page : ℕ
+  pub can : CanWithdraw env mix c entry page G
+  pub does : DoesWithdraw env.geometry entry page did.op did.old before (steps.bare after)
+
 module _ (env : Env) (mix : ℕ → ℕ → ℕ → ℕ) (c : ℕ) (words : List ℕ) (G : Ghost) (did : Did) (before after : Holding)
     (whole : Whole env mix (mem env mix words) G) (all : length words ≡ words_in env.geometry) (found : did.old ≡ old_of words did.op)
     (entry : ℕ) (low : entry < 64 * env.geometry.pages) (of_entry : is_entry G entry ≡ true)
-    (there : op_place did.op ≡ place_of env.geometry (PageWord entry)) (changes : word_after did.old did.op ≢ did.old) where
+    (there : op_place did.op ≡ place_of env.geometry (PageWord entry)) (changes : word_after did.old did.op ≢ did.old) (fits : FitBefore did) where
   abbrev g : Geometry
   g = env.geometry
 
@@ -58,7 +71,7 @@ module _ (env : Env) (mix : ℕ → ℕ → ℕ → ℕ) (c : ℕ) (words : List
   M = mem env mix words
 
   abbrev Here : Type 0
-  Here = EntersThere env mix c G did before after entry
+  Here = EntersThere env mix c G did before after entry ⊎ ClearsThere env mix c G did before after entry
 
   -- a move that leaves where the entry leads leaves its word
   unchanged : (G' : Ghost) → Whole env mix (mem env mix (applied words did.op)) G' → is_entry G' entry ≡ true
@@ -99,13 +112,36 @@ module _ (env : Env) (mix : ℕ → ℕ → ℕ → ℕ) (c : ℕ) (words : List
   entered_by_move (Enters j p) ready then does =
       let at : place_of g (PageWord j) ≡ place_of g (PageWord entry) = sym (ap op_place does.entering) ∙ there in
       let same : j ≡ entry = omega (arith, at) in
-      record {
+      inl (record {
         page = p;
         ready = subst (λ i. IsEntering env mix c i p G) same ready;
         does = subst (λ i. DoesEnter g i p did.op did.old before (steps.bare after)) same does;
-      }
+      })
+  entered_by_move (Withdraws j p) ready then does =
+      let at : place_of g (PageWord j) ≡ place_of g (PageWord entry) = sym (ap op_place does.clearing) ∙ there in
+      let same : j ≡ entry = omega (arith, at) in
+      inr (record {
+        page = p;
+        can = subst (λ i. CanWithdraw env mix c i p G) same ready;
+        does = subst (λ i. DoesWithdraw g i p did.op did.old before (steps.bare after)) same does;
+      })
   entered_by_move (TakesPages index bits) ready then does = pages_kept index bits PageFree (PageHeld c) ready refl then
   entered_by_move (GivesPages index bits) ready then does = pages_kept index bits (PageHeld c) PageFree ready refl then
+  entered_by_move (TakesBack slot index bits) ready then does =
+      -- each bit that it sets is a page's, so its word is none of the pages'
+      absurd (changes (same_from_bits_below 64 (word_after did.old did.op) did.old fits.left fits.found
+      (λ bit few. elim (cases_eq (bit_at bits bit) 1) [
+        | inl set ↦
+            let order = parts_in_order g in
+            let quotient : (64 * index + bit) / 64 ≡ index = omega (arith, few) in
+            let rest : (64 * index + bit) % 64 ≡ bit = omega (arith, few) in
+            let one : bit_at bits ((64 * index + bit) % 64) ≡ 1 = ap (bit_at bits) rest ∙ set in
+            let among = ready.own.among (64 * index + bit)
+            (and_from ((64 * index + bit) / 64 == index) (bit_at bits ((64 * index + bit) % 64) == 1) (grind (arith, nat_tests, quotient)) (grind (arith, nat_tests, one))) in
+            let at = sym does.sets.on ∙ there in
+            absurd (omega (arith, at, among, order.pages, order.nodes))
+        | inr unset ↦ does.sets.others bit few unset
+      ])))
   entered_by_move (steps.Attaches slot shape seed serial) ready then does =
       let order = parts_in_order g in
       before_pages _ (ap op_place does.attaching)
@@ -157,6 +193,7 @@ module _ (env : Env) (mix : ℕ → ℕ → ℕ → ℕ) (c : ℕ) (M : Memory) 
       attaching-none env mix c M G did entry page exchanges last slot within.last_in is
   work-none (working.Unmaking root unmake) within is had =
       unmake-enters env mix c M G did entry page exchanges unmake.geometry unmake.slot unmake.at is
+  work-none (working.Returning returns) within is had = no_exchange (returns-kind returns.geometry returns.at) (sym is ∙ exchanges)
   work-none _ within is had = had
 
   pub enters_now : (job : Job) → JobIn env mix c job → did.op ≡ job_plan env c job → In page (held_of job).pages → Now job

@@ -39,7 +39,8 @@ use Rattle.rht_release.specs.declared.rebind.RebindEnd.TheVariants as rebind_end
 use Rattle.rht_nest.specs.Tables.{is_nested}
 use Rattle.rht_move.specs.LastTable.{LastTableModel, last_table_after}
 use Rattle.rht_move.specs.LastEntry.{LastEntryModel, last_entry_after}
-use Rattle.rht_move.specs.Work.{after_at, bucket_of_root, next_bucket, entry_passed, locked, unlocking, entry_table_seen, with_word, entry_or_empty, walked, second_locked, cut_off, unlocked_bucket, retiring, closed, outcome_of, unmade, future_or_idle}
+use Rattle.rht_move.specs.Work.{after_at, bucket_of_root, next_bucket, entry_passed, locked, unlocking, entry_table_seen, with_word, entry_or_empty, walked, second_locked, cut_off, unlocked_bucket, retiring, closed, outcome_of, unmade, future_or_idle, kept}
+use Rattle.rht_reclaim.specs.KeepSections.{KeepSectionsModel, keep_sections_after}
 use Rattle.rht_move.specs.declared.last_table.Last.{Last}
 use Rattle.rht_move.specs.declared.last_entry.Entry.{Entry}
 use Rattle.rht_move.specs.declared.rehash.Rehash.{Rehash}
@@ -149,6 +150,7 @@ due_is_past dues.Later = true
 
 abbrev pub work_is_past : WorkAt → Bool
 work_is_past at.WorkLock = false
+work_is_past (at.Returning returns) = false
 work_is_past at.Opening = false
 work_is_past at.CurrentTable = false
 work_is_past (at.LastTable root seek) = false
@@ -174,6 +176,7 @@ work_is_past (at.Publishing rehash) = true
 work_is_past (at.NewFuture rehash) = true
 work_is_past (at.Closing ending) = outcome_is_past (outcome_of ending)
 work_is_past (at.Retiring root again) = true
+work_is_past (at.KeepingSections keep again) = true
 work_is_past (at.LettingGo outcome) = outcome_is_past outcome
 
 -- a tidying is past it once it gives nodes back
@@ -376,6 +379,10 @@ closing-past : (ending : Ending) → outcome_is_past (outcome_of ending) ≡ tru
 closing-past (endings.Retiring root again) past = refl
 closing-past (endings.LettingGo outcome) past = past
 
+keeps-past : (keep : KeepSectionsModel) (again : Bool) (next : Next (Unit {0})) → work_is_past (kept keep again next) ≡ true
+keeps-past keep again Go = refl
+keeps-past keep again (Done done) = refl
+
 ended-past : (mix : ℕ → ℕ → ℕ → ℕ) (env : Env) (outcome : Outcome) (old : ℕ) → outcome_is_past outcome ≡ true
     → WorkPast (after_at mix env (at.LettingGo outcome) old)
 ended-past mix env Idle old past = absurd (cc)
@@ -387,6 +394,7 @@ pub work-past : (mix : ℕ → ℕ → ℕ → ℕ) (env : Env) (state : WorkAt)
     → ((root : ℕ) (due : Due) → state ≡ at.RootFuture root due → due_is_past due ≡ true → slot_of old ≢ None)
     → WorkPast (after_at mix env state old)
 work-past mix env at.WorkLock old past some = absurd (cc)
+work-past mix env (at.Returning returns) old past some = absurd (cc)
 work-past mix env at.Opening old past some = absurd (cc)
 work-past mix env at.CurrentTable old past some = absurd (cc)
 work-past mix env (at.LastTable root seek) old past some = absurd (cc)
@@ -416,6 +424,8 @@ work-past mix env (at.CuttingOff emptying entry) old past some = cut-past env.ge
 work-past mix env (at.Unlocking rehash number unlock stop) old past some = unlocked-past env.geometry rehash number stop
 work-past mix env (at.NewFuture rehash) old past some = retiring-past rehash (slot_of old)
 work-past mix env (at.Closing ending) old past some = closing-past ending past
+work-past mix env (at.KeepingSections keep again) old past some =
+    keeps-past (keep_sections_after keep old).0 again (keep_sections_after keep old).1
 work-past mix env (at.LettingGo outcome) old past some = ended-past mix env outcome old past
 work-past mix env _ old past some = refl
 

@@ -1,7 +1,8 @@
 -- What a job holds and does that may still be refused, or that ends without a change: it has raised no count, and moves nothing. Where it
 -- takes nodes or makes tables it has a node where it has a lock, and else it holds a lock at most. Its pages are its own, the one exchange
 -- of a future is that of a bind which attaches the table that it has made, and a page that it enters is none of its own any more.
-use Rattle.std.proofs.Common.{◌≡◌, ◌≢◌, ℕ, ◌+◌, ◌<◌, Bool, false, List, Option, Some, None, refl, sym, ◌∙◌, subst, arith}
+use Rattle.std.proofs.Common.{◌≡◌, ◌≢◌, ℕ, ◌+◌, ◌<◌, Bool, true, false, List, [], Option, Some, None, refl, sym, ◌∙◌, subst, arith}
+use Rattle.std.specs.Prelude.{if◌then◌else◌}
 use Rattle.rht_words.specs.declared.env.Env.{Env}
 use Rattle.rht_words.specs.declared.geometry.Geometry.{Geometry}
 use Rattle.rht_words.specs.declared.op.Op.TheVariants.{Exchange}
@@ -18,7 +19,7 @@ use Rattle.rht_nest.specs.Tables.{table_pages, pages_of_shape}
 use Rattle.rht_arena.specs.TakeRun.{TakeRunModel, take_run_plan_at}
 use Rattle.rht_arena.specs.declared.take_run.TakeRunAt.{TakeRunAt}
 use Rattle.rht_arena.specs.declared.take_run.TakeRunAt.TheVariants as takes
-use Rattle.rht_nest.specs.Make.{MakeModel, make_plan_at, pages_of_make}
+use Rattle.rht_nest.specs.Make.{MakeModel, make_plan_at, slot_of_make, pages_of_make}
 use Rattle.rht_nest.specs.declared.make.MakeAt.{MakeAt}
 use Rattle.rht_nest.specs.declared.make.MakeAt.TheVariants as makes
 use Rattle.rht_nest.specs.Place.{PlaceModel, entered}
@@ -45,6 +46,15 @@ use Rattle.rht_move.specs.WorkHeld.{held_of_work}
 use Rattle.rht_move.specs.LastTable.{LastTableModel}
 use Rattle.rht_move.specs.declared.last_table.Last.{Last}
 use Rattle.rht_move.specs.declared.work.Wanted.{Wanted}
+use Rattle.rht_reclaim.specs.ReturnTables.{ReturnTablesModel}
+use Rattle.rht_reclaim.specs.ReturnHeld.{is_first_word, pages_of_give_table, pages_of_returning}
+use Rattle.rht_reclaim.specs.declared.give_table.GiveTableAt.{GiveTableAt}
+use Rattle.rht_reclaim.specs.declared.give_table.GiveTableAt.TheVariants as gives
+use Rattle.rht_reclaim.specs.declared.return_tables.ReturnTablesAt.{ReturnTablesAt}
+use Rattle.rht_reclaim.specs.declared.return_tables.ReturnTablesAt.TheVariants as returning
+use Rattle.rht_arena.specs.GiveRun.{pages_of_give_run}
+use Rattle.rht_ghost.proofs.Theory.Knowns.{MakesNothing, HasBack}
+use Rattle.rht_move.proofs.WorkKnowledge.{made_giving, made_returning}
 use Rattle.rht_move.specs.declared.work.Outcome.TheVariants.{NoTable, Idle}
 use Rattle.rht_move.specs.declared.work.Due.TheVariants.{Nothing}
 use Rattle.rht_move.specs.declared.work.ending.Ending.TheVariants.{LettingGo}
@@ -53,17 +63,19 @@ use Rattle.rht_move.specs.declared.work.WorkAt.TheVariants as working
 use Rattle.rht_core.specs.Jobs.{Job, finds, binds, lists, releases, rebinds, works, tidies, walks, counts, call_of, job_plan, job_after, held_of, held_next}
 use Rattle.rht_core.specs.Traces.{Did}
 use Rattle.rht_core.specs.Refused.{StoresLast, MayAttach}
-use Rattle.rht_ghost.proofs.Theory.Ghosts.{Ghost, PageHeld}
+use Rattle.rht_ghost.proofs.Theory.Ghosts.{Ghost, PageHeld, SlotHeld}
 use Rattle.rht_ghost.proofs.Theory.Knowledge.{IsMade, MakingMeans}
 use Rattle.rht_ghost.proofs.Theory.Steps.{Holding}
 use Rattle.rht_ghost.proofs.Pieces.Makes.{known_of_make}
 use Rattle.rht_words.proofs.FilteredLists.{range_with_len-from}
 use Rattle.rht_core.proofs.Machines.JobSteps.{JobKnows}
+use Rattle.rht_core.proofs.Machines.ReturnPlans.{returns-kind, no_exchange}
 use Rattle.rht_core.proofs.Machines.NeverHeld.{job-unraised, tableless, slotless, pageless}
 use Rattle.rht_core.proofs.Reasons.AttachedTables.{make-none, unmake-none}
 use Rattle.rht_core.proofs.Undoing.GoingBack.{MayAttachWith}
 use Rattle.rht_core.proofs.Undoing.PastRefusal.{bind_is_past, release_is_past, rebind_is_past, work_is_past, is_past}
 use Rattle.rht_core.proofs.Undoing.StoredShapes.{HasStored}
+use Rattle.rht_core.proofs.Undoing.WorkStages.{stage_of, work_stage, is_returning, return_in}
 
 -- ---- what it holds
 
@@ -119,6 +131,7 @@ rebind-refusable (rebinding.Giving give) may = has_no_lock refl refl refl
 -- none was due, and looks for a future of the current one
 pub data IsEarlyWork : WorkAt → Type 0 where
   at_lock : IsEarlyWork working.WorkLock
+  at_returning : (returns : ReturnTablesModel) → IsEarlyWork (working.Returning returns)
   at_opening : IsEarlyWork working.Opening
   at_current : IsEarlyWork working.CurrentTable
   at_last : (root : ℕ) (seek : LastTableModel) → IsEarlyWork (working.LastTable root seek)
@@ -132,6 +145,7 @@ pub data IsEarlyWork : WorkAt → Type 0 where
 
 pub early_work : (state : WorkAt) → work_is_past state ≡ false → IsEarlyWork state
 early_work working.WorkLock may = at_lock
+early_work (working.Returning returns) may = at_returning returns
 early_work working.Opening may = at_opening
 early_work working.CurrentTable may = at_current
 early_work (working.LastTable root seek) may = at_last root seek
@@ -217,10 +231,74 @@ module _ (env : Env) (mix : ℕ → ℕ → ℕ → ℕ) (c : ℕ) (M : Memory) 
       knows.knowing.means.making page i
   bind-mine port owner once _ may knows page i = absurd i
 
+  -- and those of a table that is given back
+  giving-mine : (slot : ℕ) (at : GiveTableAt) → MakingMeans env mix c M G (made_giving slot at) → AreMine (pages_of_give_table at)
+  giving-mine slot (gives.Run give) means page i = run-mine (is_first_word give) means i
+    where
+      run-mine : (first : Bool) → MakingMeans env mix c M G (if first then MakesNothing else HasBack slot (pages_of_give_run give))
+          → In page (if first then [] else pages_of_give_run give) → G.page page ≡ PageHeld c
+      run-mine true means i = absurd i
+      run-mine false means i = means.mine page i
+  giving-mine slot (gives.GiveLeaf shape top p leaf below) means page i = means page i
+  giving-mine slot (gives.GivePage shape top p) means page i = means page i
+  giving-mine slot _ means page i = absurd i
+
+  returning-mine : (at : ReturnTablesAt) → MakingMeans env mix c M G (made_returning at) → AreMine (pages_of_returning at)
+  returning-mine (returning.Giving give) means page i = giving-mine give.slot give.at means page i
+  returning-mine _ means page i = absurd i
+
   work-mine : (state : WorkAt) → IsEarlyWork state → JobKnows env mix c (works state) M G → AreMine (held_of_work state).pages
   work-mine state (at_making wanted make) knows page i =
       make-mine make.exponent make.seed make.at knows.knowing.means.making page i
+  work-mine state (at_returning returns) knows page i = returning-mine returns.at knows.knowing.means.making page i
   work-mine state _ knows page i = absurd i
+
+  -- its slot
+  make-slot : (exponent seed slot : ℕ) (state : MakeAt) → MakingMeans env mix c M G (known_of_make exponent seed state)
+      → slot_of_make state ≡ Some slot → G.slot slot ≡ SlotHeld c
+  make-slot exponent seed slot (makes.Slot s) means has = absurd (cc)
+  make-slot exponent seed slot (makes.Taking s take) means has =
+      let same : s ≡ slot = cc in subst (λ x. G.slot x ≡ SlotHeld c) same means.slot.has.mine
+  make-slot exponent seed slot (makes.TakingTop s take) means has =
+      let same : s ≡ slot = cc in subst (λ x. G.slot x ≡ SlotHeld c) same means.slot.has.mine
+  make-slot exponent seed slot (makes.SlotBack s) means has =
+      let same : s ≡ slot = cc in subst (λ x. G.slot x ≡ SlotHeld c) same means.slot.has.mine
+  make-slot exponent seed slot (makes.NextSerial s nested page) means has =
+      let same : s ≡ slot = cc in subst (λ x. G.slot x ≡ SlotHeld c) same means.slot.has.mine
+  make-slot exponent seed slot (makes.Shape s nested page serial) means has =
+      let same : s ≡ slot = cc in subst (λ x. G.slot x ≡ SlotHeld c) same means.slot.has.mine
+  make-slot exponent seed slot (makes.Seed s nested page serial) means has =
+      let same : s ≡ slot = cc in subst (λ x. G.slot x ≡ SlotHeld c) same means.slot.has.mine
+  make-slot exponent seed slot (makes.Future s nested page serial) means has =
+      let same : s ≡ slot = cc in subst (λ x. G.slot x ≡ SlotHeld c) same means.slot.has.mine
+  make-slot exponent seed slot (makes.Serial s nested page serial) means has =
+      let same : s ≡ slot = cc in subst (λ x. G.slot x ≡ SlotHeld c) same means.slot.has.mine
+
+  bind-slot : (port owner : ℕ) (once : Bool) (state : BindAt) → bind_is_past state ≡ false
+      → JobKnows env mix c (binds port owner once state) M G → (slot : ℕ) → (held_of_bind state).slot ≡ Some slot → G.slot slot ≡ SlotHeld c
+  bind-slot port owner once (binding.Making growing size make) may knows slot has =
+      make-slot make.exponent make.seed slot make.at knows.knowing.means.making has
+  bind-slot port owner once (binding.Attaching growing s shape) may knows slot has =
+      let same : s ≡ slot = cc in subst (λ x. G.slot x ≡ SlotHeld c) same knows.knowing.means.making.has.mine
+  bind-slot port owner once (binding.Unmaking attempt unmake answer) may knows slot has =
+      let same : unmake.slot ≡ slot = cc in subst (λ x. G.slot x ≡ SlotHeld c) same knows.knowing.means.making.slot.has.mine
+  bind-slot port owner once (binding.Replacing list relink) may knows slot has = absurd (cc)
+  bind-slot port owner once (binding.Publish node table relink kick) may knows slot has = absurd (cc)
+  bind-slot port owner once _ may knows slot has = absurd (cc)
+
+  -- while a table is given back its slot isn't held so
+  work-slot : (state : WorkAt) → IsEarlyWork state → is_returning (work_stage state) ≡ false → JobKnows env mix c (works state) M G
+      → (slot : ℕ) → (held_of_work state).slot ≡ Some slot → G.slot slot ≡ SlotHeld c
+  work-slot state (at_making wanted make) out knows slot has =
+      make-slot make.exponent make.seed slot make.at knows.knowing.means.making has
+  work-slot state (at_returning returns) out knows slot has = absurd (let both = sym (return_in returns.at) ∙ out in cc)
+  work-slot state _ out knows slot has = absurd (cc)
+
+  pub slot_mine : (job : Job) → is_past job ≡ false → is_returning (stage_of job) ≡ false → JobKnows env mix c job M G → (slot : ℕ)
+      → (held_of job).slot ≡ Some slot → G.slot slot ≡ SlotHeld c
+  slot_mine (binds port owner once state) may out knows slot has = bind-slot port owner once state may knows slot has
+  slot_mine (works state) may out knows slot has = work-slot state (early_work state may) out knows slot has
+  slot_mine job may out knows slot has = absurd (slotless (tableless job refl) slot has)
 
   pub mine : (job : Job) → is_past job ≡ false → JobKnows env mix c job M G → AreMine (held_of job).pages
   mine (binds port owner once state) may knows page i = bind-mine port owner once state may knows page i
@@ -258,6 +336,8 @@ module _ (env : Env) (mix : ℕ → ℕ → ℕ → ℕ) (c : ℕ) (M : Memory) 
         → (held_of_work state).slot ≡ Some slot → ⊥
     work-attaches state (at_making wanted make) is has =
         make-none g make.geometry make.exponent make.seed make.at last 0 (future_of slot) low (sym is ∙ exchanges)
+    work-attaches state (at_returning returns) is has =
+        no_exchange (returns-kind returns.geometry returns.at) (sym is ∙ exchanges)
     work-attaches state _ is has = cc
 
     pub attaches : (job : Job) → is_past job ≡ false → JobKnows env mix c job M G → JobStored env job steps
@@ -288,6 +368,8 @@ module _ (env : Env) (mix : ℕ → ℕ → ℕ → ℕ) (c : ℕ) (M : Memory) 
     pub work-enters : (state : WorkAt) → IsEarlyWork state → did.op ≡ job_plan env c (works state)
         → In page (held_of_work state).pages → ⊥
     work-enters state (at_making wanted make) is i = make-enters make.exponent make.seed make.geometry make.at is i
+    work-enters state (at_returning returns) is i =
+        no_exchange (returns-kind returns.geometry returns.at) (sym is ∙ exchanges)
     work-enters state _ is i = i
 
     pub enters : (job : Job) → is_past job ≡ false → did.op ≡ job_plan env c job → In page (held_of job).pages

@@ -3,8 +3,9 @@
 --
 -- While a call may still end so its operations have changed nothing that the words stand for, and the bits that they turned an odd
 -- number of times are those of what it holds, but for those that may be left. An operation that changes bindings tells an answer that
--- says so, and behind that the call doesn't end so. Once it has ended it holds nothing, and its caller is in no section.
-use Rattle.std.proofs.Common.{◌≡◌, ◌≢◌, ◌⊎◌, ℕ, suc, ◌+◌, ◌%◌, ◌<◌, Bool, true, false, List, [], ◌∷◌, ◌++◌, take, refl, sym, ap, ◌∙◌, subst, inl, inr, arith}
+-- says so, and behind that the call doesn't end so. Once it has ended it holds nothing, and its caller is in no section. What a resizing
+-- gives back of retired tables it does so before it opens its section.
+use Rattle.std.proofs.Common.{◌≡◌, ◌≢◌, ◌⊎◌, ℕ, suc, ◌+◌, ◌<◌, Bool, true, false, List, [], ◌∷◌, ◌++◌, take, refl, sym, ap, ◌∙◌, subst, inl, inr, arith}
 use Rattle.std.specs.Prelude.{Option, Some, None, IfSome}
 use Rattle.std.specs.List.{AllByRecursion}
 use Rattle.rht_words.specs.declared.env.Env.{Env}
@@ -19,7 +20,7 @@ use Rattle.rht_words.specs.Operations.{old_of, applied}
 use Rattle.rht_words.specs.Places.{Slot, FutureWord}
 use Rattle.rht_words.proofs.EachElement.{AllByRecursion-push}
 use Rattle.rht_model.specs.declared.history.Call.{Call}
-use Rattle.rht_model.specs.declared.history.Call.TheVariants.{Rebind, Tidy}
+use Rattle.rht_model.specs.declared.history.Call.TheVariants.{Rebind, Work, Tidy}
 use Rattle.rht_model.specs.declared.history.Reply.{Reply}
 use Rattle.rht_model.specs.declared.history.Reply.TheVariants as replies
 use Rattle.rht_model.specs.Answers.{Answer, is_change}
@@ -38,14 +39,14 @@ use Rattle.rht_core.specs.declared.event.Event.TheVariants.{Step as Steps}
 use Rattle.rht_grace.specs.Batch.{BatchModel}
 use Rattle.rht_grace.specs.Tidy as tidy_at
 use Rattle.rht_grace.specs.declared.tidy.TidyAt.TheVariants as tidy_states
-use Rattle.rht_core.specs.Jobs.{Job, binds, releases, rebinds, works, tidies, tidying, tidied, call_of, first_job, job_plan, job_after, job_next, node_ending, held_of, held_next, IsFirstJob}
+use Rattle.rht_core.specs.Jobs.{Job, binds, releases, rebinds, works, tidies, tidying, tidied, told, call_of, first_job, job_plan, job_after, job_next, node_ending, held_of, held_next, IsFirstJob}
 use Rattle.rht_core.specs.Runs.{World, run_of, IsAdmitted}
 use Rattle.rht_core.specs.Traces.{Did, Past, traced_of}
 use Rattle.rht_core.specs.Seen.{words_before}
 use Rattle.rht_stands.specs.StandsFor.{stands_for}
 use Rattle.rht_core.specs.RunHistories.{ChangesBindings}
 use Rattle.rht_core.specs.Laws.{IsRecorded, IsPastCall}
-use Rattle.rht_core.specs.Refused.{MayAttach, changes_nothing, turns, IsExcepted, IsUndone, Refused}
+use Rattle.rht_core.specs.Refused.{MayAttach, changes_nothing, IsExcepted, IsEvenIn, IsUndone, Refused}
 use Rattle.rht_ghost.proofs.Theory.Answering.{entry_of, same_reply, known_so, unknown_before, Says, ChangesBindings as ChangesThem}
 use Rattle.rht_ghost.proofs.Theory.Knowns.{Onward, Rooted}
 use Rattle.rht_ghost.proofs.Theory.Knowledge.{WorkMeans}
@@ -53,7 +54,7 @@ use Rattle.rht_ghost.proofs.Pieces.WorkLoads.{has_future}
 use Rattle.rht_ghost.proofs.Theory.Steps.{Holding, mem, ghost_after, Does, ReturnsNode, SaysChange}
 use Rattle.rht_core.proofs.Meaning.BoundPorts.{stands_for_bound}
 use Rattle.rht_core.proofs.Events.Worlds.{run_of-next, step_words}
-use Rattle.rht_core.proofs.Events.JobsOfCallers.{each_goes, first_holds, first_rebind-so, first_tidy-so, same_call, first-of}
+use Rattle.rht_core.proofs.Events.JobsOfCallers.{each_goes, first_rebind-so, first_tidy-so, same_call, first-of}
 use Rattle.rht_core.proofs.Tracing.TracedJobs.{Performs, LeadsOn, IsEndedSo}
 use Rattle.rht_core.proofs.Tracing.JobsBeside.{kept_beside}
 use Rattle.rht_core.proofs.Tracing.BehindCalls.{section_left}
@@ -64,8 +65,17 @@ use Rattle.rht_core.proofs.Undoing.UndoneSoFar.{Undoes, GoneWhereEntered, Undoes
 use Rattle.rht_core.proofs.Undoing.GoingBack.{GoesBack}
 use Rattle.rht_core.proofs.Undoing.UndoneMoves.{kept_by}
 use Rattle.rht_core.proofs.Undoing.PastRefusal.{due_is_past, is_past, StaysPast, bind-past, release-past, rebind-past, work-past, tidy-past}
+use Rattle.rht_core.proofs.Undoing.WorkStages.{Stage, AtLock, Asks, Loads, Gives, Opens, Behind, stage_of, stage_now, GoesTo, takes_lock, refused as lock_taken, opened, stays, asks_on, to_shape, asked_all, loaded, gives_on, freed, freed_last, stage_goes, lock_job, opening_job, is_returning}
+use Rattle.rht_core.proofs.Undoing.TablesThen.{StandsInStage}
+use Rattle.rht_core.proofs.Undoing.GivenBack.{IsBalanced, balanced-end}
+use Rattle.rht_core.proofs.Undoing.TurnedBits.{work_bit, held_bits}
+use Rattle.rht_core.proofs.Undoing.ReturnedBits.{slot_now, ReturnsSoFar, takes_so, returns_goes}
+use Rattle.rht_core.proofs.Undoing.ReturningAlone.{withdraws_returning, takes_back_none}
+use Rattle.rht_reclaim.specs.GiveTable.{shape_seen, give_table_after_at}
+use Rattle.rht_reclaim.specs.declared.give_table.GiveTableAt.TheVariants.{FreeSlot as free_slot}
+use Rattle.rht_words.specs.Held as held
 use Rattle.rht_core.proofs.Undoing.StoredShapes.{bind-stored}
-use Rattle.rht_core.proofs.Undoing.RefusableJobs.{refusable, mine, JobStored, attaches, enters, gone}
+use Rattle.rht_core.proofs.Undoing.RefusableJobs.{refusable, slot_mine, mine, JobStored, attaches, enters, gone}
 use Rattle.rht_core.proofs.Undoing.LockedJobs.{locked-leaves}
 
 -- ---- answers that say that bindings were changed
@@ -119,6 +129,10 @@ module _ (env : Env) (mix : ℕ → ℕ → ℕ → ℕ) where
   due_some root dues.Attached did performs past = onward_some root dues.Attached did performs performs.knows.knowing.means.work
   due_some root dues.Later did performs past = onward_some root dues.Later did performs performs.knows.knowing.means.work
 
+-- nothing is held
+abbrev holds_none : Holding
+holds_none = held.holds_nothing
+
 module _ (M : Type 0) (mix : ℕ → ℕ → ℕ → ℕ) (env : Env) (events : List Event) (c : ℕ) where
   abbrev g : Geometry
   g = env.geometry
@@ -131,9 +145,18 @@ module _ (M : Type 0) (mix : ℕ → ℕ → ℕ → ℕ) (env : Env) (events : 
       let words = words_before M mix env events did.index in
       Agree (stands_for g (applied words did.op)) (stands_for g words)
 
+  -- what was turned: nothing at the lock, the bits of what is given back of retired tables, and behind that those of what the call holds
+  abbrev pub UndoesInStage : Stage → Job → List Did → Type 0
+  UndoesInStage AtLock job steps = steps ≡ []
+  UndoesInStage Asks job steps = ReturnsSoFar g (words_before M mix env events) None steps
+  UndoesInStage (Loads slot) job steps = ReturnsSoFar g (words_before M mix env events) None steps
+  UndoesInStage (Gives slot state) job steps = ReturnsSoFar g (words_before M mix env events) (Some slot) steps
+  UndoesInStage Opens job steps = Undoes g (words_before M mix env events) c (call_of job) (held_of job) steps
+  UndoesInStage Behind job steps = Undoes g (words_before M mix env events) c (call_of job) (held_of job) steps
+
   -- of one that may still be refused
   pub record MayBeRefused (job : Job) (steps : List Did) : Type 0 where
-    pub undoes : Undoes g (words_before M mix env events) c (call_of job) (held_of job) steps
+    pub undoes : UndoesInStage (stage_of job) job steps
     pub still : AllByRecursion LeavesBindings steps
     pub stored : JobStored env job steps
 
@@ -144,7 +167,8 @@ module _ (M : Type 0) (mix : ℕ → ℕ → ℕ → ℕ) (env : Env) (events : 
   -- of one that has ended
   pub record HasUndone (call : Call) (steps : List Did) : Type 0 where
     pub even : (place bit : ℕ) → bit < 64
-        → IsExcepted g (words_before M mix env events) c call steps place bit ⊎ (turns place bit steps % 2 ≡ 0)
+        → IsExcepted g (words_before M mix env events) c call steps place bit
+        ⊎ IsEvenIn g (words_before M mix env events) call place bit steps
     pub still : AllByRecursion LeavesBindings steps
 
   abbrev pub Undone : Call → Ending → List Did → Type 0
@@ -196,6 +220,16 @@ module _ (M : Type 0) (mix : ℕ → ℕ → ℕ → ℕ) (env : Env) (events : 
 
   -- ---- while it may be refused
 
+  -- who has done nothing has turned nothing
+  nothing_undone : (call : Call) → Undoes g (words_before M mix env events) c call holds_none []
+  nothing_undone call = record {
+    even = λ place bit low. inr (inl refl);
+    node_in = λ n is. absurd (cc);
+    slot_in = λ s is. absurd (cc);
+    pages_in = λ page i. absurd i;
+    took = λ page i. absurd i;
+  }
+
   -- what the next state has stored
   abbrev NextStored : List Did → Job × Next Ending → Type 0
   NextStored all next = GoesOrEnds (λ after. JobStored env after all) (λ ending. Unit {0}) next
@@ -229,10 +263,6 @@ module _ (M : Type 0) (mix : ℕ → ℕ → ℕ → ℕ) (env : Env) (events : 
   returns_none c (tidies batch (tidy_states.Giving index)) did h h' n may is asked does = absurd (cc)
   returns_none c _ did h h' n may is asked does = absurd (cc)
 
-  -- a call that has ended holds nothing
-  nothing_held : (n : ℕ) → (n + 0) % 2 ≡ 0 → n % 2 ≡ 0
-  nothing_held n even = omega (arith, even)
-
   module _ (job : Job) (steps : List Did) (did : Did) (may : is_past job ≡ false) (kept : MayBeRefused job steps) where
     abbrev all : List Did
     all = steps ++ did ∷ []
@@ -246,28 +276,33 @@ module _ (M : Type 0) (mix : ℕ → ℕ → ℕ → ℕ) (env : Env) (events : 
         after.raised ≡ false → after.moving ≡ false
         → SaysChange after.answer ⊎ Undoes g (words_before M mix env events) c (call_of job) after all
 
-    go_on : (after : Job) → call_of after ≡ call_of job → LeavesOr (held_of after) → UndoesOr (held_of after)
-        → JobStored env after all → (t : Bool) → is_past after ≡ t → Going after all
-    go_on after same leaves undoes stored true past = inl past
-    go_on after same leaves undoes stored false not_past =
-        let may_then = refusable after not_past in
-        elim leaves [
-          | inl says ↦ inr (inl says)
-          | inr left ↦ elim (undoes may_then.low may_then.still) [
-            | inl says ↦ inr (inl says)
-            | inr now ↦ inr (inr (record {
-              undoes = subst (λ call. Undoes g (words_before M mix env events) c call (held_of after) all) (sym same) now;
-              still = AllByRecursion-push LeavesBindings steps did kept.still left;
-              stored = stored;
-            }))
-          ]
-        ]
+    -- and by the job that it leads to, or once the call has ended
+    abbrev UndoesNext : Job × Next Ending → Type 0
+    UndoesNext (after, Go) = is_past after ≡ false → SaysChange (held_of after).answer ⊎ UndoesInStage (stage_of after) after all
+    UndoesNext (after, Done ending) =
+        SaysChange (held_next (after, Done ending)).answer
+        ⊎ Undoes g (words_before M mix env events) c (call_of job) (held_next (after, Done ending)) all
 
-    end : (after : Job) (ending : Ending) → LeavesOr (held_next (after, Done ending)) → UndoesOr (held_next (after, Done ending))
+    go_on : (after : Job) → LeavesOr (held_of after) → UndoesNext (after, Go) → JobStored env after all → (t : Bool)
+        → is_past after ≡ t → Going after all
+    go_on after leaves undoes stored true past = inl past
+    go_on after leaves undoes stored false not_past = elim leaves [
+      | inl says ↦ inr (inl says)
+      | inr left ↦ elim (undoes not_past) [
+        | inl says ↦ inr (inl says)
+        | inr now ↦ inr (inr (record {
+          undoes = now;
+          still = AllByRecursion-push LeavesBindings steps did kept.still left;
+          stored = stored;
+        }))
+      ]
+    ]
+
+    end : (after : Job) (ending : Ending) → LeavesOr (held_next (after, Done ending)) → UndoesNext (after, Done ending)
         → Leads job all (after, Done ending)
     end after ending leaves undoes = elim leaves [
       | inl says ↦ change-leads all job (after, Done ending) says
-      | inr left ↦ elim (undoes refl refl) [
+      | inr left ↦ elim undoes [
         | inl says ↦ change-leads all job (after, Done ending) says
         | inr now ↦ λ nothing. record {
           even = λ place bit low. elim (now.even place bit low) [
@@ -278,20 +313,20 @@ module _ (M : Type 0) (mix : ℕ → ℕ → ℕ → ℕ) (env : Env) (events : 
                 | inr slot ↦ absurd (let none = slot.has in cc)
               ]
             ]
-            | inr even ↦ inr (nothing_held (turns place bit all) even)
+            | inr even ↦ inr (balanced-end g (words_before M mix env events) (call_of job) place bit all even)
           ];
           still = AllByRecursion-push LeavesBindings steps did kept.still left;
         }
       ]
     ]
 
-    by_next : (next : Job × Next Ending) → call_of next.0 ≡ call_of job → LeavesOr (held_next next) → UndoesOr (held_next next)
-        → NextStored all next → Leads job all next
-    by_next (after, Go) same leaves undoes stored = go_on after same leaves undoes stored (is_past after) refl
-    by_next (after, Done ending) same leaves undoes stored = end after ending leaves undoes
+    by_next : (next : Job × Next Ending) → LeavesOr (held_next next) → UndoesNext next → NextStored all next → Leads job all next
+    by_next (after, Go) leaves undoes stored = go_on after leaves undoes stored (is_past after) refl
+    by_next (after, Done ending) leaves undoes stored = end after ending leaves undoes
 
     module _ (performs : Performs mix env job did) (own : performs.caller ≡ c)
-        (here : performs.words ≡ words_before M mix env events did.index) (came : CameToEnter g job steps) where
+        (here : performs.words ≡ words_before M mix env events did.index)
+        (giving : StandsInStage g (words_before M mix env events) (stage_of job) steps did.old) (came : CameToEnter g job steps) where
       abbrev after : Holding
       after = held_next (job_after mix env job did.old)
 
@@ -305,8 +340,10 @@ module _ (M : Type 0) (mix : ℕ → ℕ → ℕ → ℕ) (env : Env) (events : 
             ∙ stills.agree port ∙ sym (stands_for_bound env mix performs.words performs.ghost performs.whole port)))
       ]
 
-      undoes : UndoesOr after
-      undoes low_then still_then =
+      -- where no retired table is given back
+      undoes : is_returning (stage_of job) ≡ false
+          → Undoes g (words_before M mix env events) c (call_of job) (held_of job) steps → UndoesOr after
+      undoes out was low_then still_then =
           let gone_then : GoneWhereEntered g (words_before M mix env events) c (call_of job) steps did (held_of job) after =
           λ entry page exchanges free had i.
           gone env mix performs.caller (mem env mix performs.words) performs.ghost did entry page exchanges job may performs.planned
@@ -314,7 +351,7 @@ module _ (M : Type 0) (mix : ℕ → ℕ → ℕ → ℕ) (env : Env) (events : 
           let holds = refusable job may in
           let step = performs.step in
           let so_far : Undoes g (words_before M mix env events) performs.caller (call_of job) (held_of job) steps =
-          subst (λ k. Undoes g (words_before M mix env events) k (call_of job) (held_of job) steps) (sym own) kept.undoes in
+          subst (λ k. Undoes g (words_before M mix env events) k (call_of job) (held_of job) steps) (sym own) was in
           let goes_back : GoesBack env mix (words_before M mix env events) (call_of job) = record {
             steps = steps;
             did = did;
@@ -333,6 +370,7 @@ module _ (M : Type 0) (mix : ℕ → ℕ → ℕ → ℕ) (env : Env) (events : 
               still = holds.still;
               still_then = still_then;
               locked_leaves = locked-leaves env mix performs.caller did.op did.old job may performs.planned;
+              slot_mine = slot_mine env mix performs.caller (mem env mix performs.words) performs.ghost job may out performs.knows;
               mine = mine env mix performs.caller (mem env mix performs.words) performs.ghost job may performs.knows;
               attaches = λ last slot low exchanges has.
                   attaches env mix performs.caller (mem env mix performs.words) performs.ghost steps did last slot
@@ -351,7 +389,14 @@ module _ (M : Type 0) (mix : ℕ → ℕ → ℕ → ℕ) (env : Env) (events : 
           subst (λ old. Does env mix step.move did.op old (held_of job) after) (sym performs.found) step.does in
           elim (kept_by goes_back step.move
           (λ n returns. returns_none performs.caller job did (held_of job) after n may performs.planned (step.returning n returns)
-          (subst (λ m. Does env mix m did.op did.old (held_of job) after) returns does)) step.ready does) [
+          (subst (λ m. Does env mix m did.op did.old (held_of job) after) returns does))
+          (λ j p withdraws.
+          let in_it = withdraws_returning env mix performs.caller job did.op did.old performs.within j p
+          (subst (λ m. Does env mix m did.op did.old (held_of job) after) withdraws does) in
+          let both = sym in_it ∙ out in cc)
+          (λ s index bits takes.
+          takes_back_none env mix performs.caller performs.few job did.op did.old after may performs.within out performs.planned s index bits
+          (subst (λ m. Does env mix m did.op did.old (held_of job) after) takes does)) step.ready does) [
             | inl says ↦ inl says
             | inr keeps ↦ inr (
                 subst (λ k. Undoes g (words_before M mix env events) k (call_of job) after all) own
@@ -359,44 +404,137 @@ module _ (M : Type 0) (mix : ℕ → ℕ → ℕ → ℕ) (env : Env) (events : 
                 gone_then))
           ]
 
+      -- behind the lock, and behind the giving back
+      behind_next : (next : Job × Next Ending) → call_of next.0 ≡ call_of job → stage_now (told next).0 ≡ Behind
+          → UndoesOr (held_next next) → UndoesNext next
+      behind_next (later, Go) same stage undoes_it = λ not_past.
+          let may_then = refusable later not_past in
+          elim (undoes_it may_then.low may_then.still) [
+            | inl says ↦ inl says
+            | inr now ↦ inr (
+                subst (λ s. UndoesInStage s later all) (sym stage)
+                (subst (λ call. Undoes g (words_before M mix env events) c call (held_of later) all) (sym same) now))
+          ]
+      behind_next (later, Done ending) same stage undoes_it = undoes_it refl refl
+
+      -- while retired tables are given back
+      returning_next : (next : Job × Next Ending) (to : Stage) → stage_now (told next).0 ≡ to → is_returning to ≡ true
+          → ReturnsSoFar g (words_before M mix env events) (slot_now to) all → UndoesNext next
+      returning_next (later, Go) to stage in_it so_far =
+          λ not_past. inr (subst (λ s. UndoesInStage s later all) (sym stage) (in_stage to in_it so_far))
+        where
+          in_stage : (s : Stage) → is_returning s ≡ true → ReturnsSoFar g (words_before M mix env events) (slot_now s) all
+              → UndoesInStage s later all
+          in_stage AtLock in_it so_far = absurd (cc)
+          in_stage Asks in_it so_far = so_far
+          in_stage (Loads slot) in_it so_far = so_far
+          in_stage (Gives slot state) in_it so_far = so_far
+          in_stage Opens in_it so_far = absurd (cc)
+          in_stage Behind in_it so_far = absurd (cc)
+      returning_next (later, Done ending) to stage in_it so_far = absurd (let both = ap is_returning stage ∙ in_it in cc)
+
+      -- and once that is over
+      opening_next : (next : Job × Next Ending) → stage_now (told next).0 ≡ Opens
+          → ReturnsSoFar g (words_before M mix env events) None all → UndoesNext next
+      opening_next (later, Go) stage so_far = λ not_past.
+          let opens = opening_job later stage in
+          inr (subst (λ s. UndoesInStage s later all) (sym stage)
+          (subst (λ j. Undoes g (words_before M mix env events) c (call_of j) (held_of j) all) (sym opens)
+          (record {
+            even = λ place bit low.
+                let same : work_bit g true place bit ≡ held_bits g c (held_of (works works_at.Opening)) place bit = omega arith in
+                inr (subst (IsBalanced g (words_before M mix env events) Work None place bit all) same (so_far place bit low));
+            node_in = λ n is. absurd (cc);
+            slot_in = λ s is. absurd (cc);
+            pages_in = λ page i. absurd i;
+            took = λ page i. absurd i;
+          })))
+      opening_next (later, Done ending) stage so_far = absurd (cc)
+
+      undoes_next : (from to : Stage) → GoesTo g did.old from to → stage_of job ≡ from → stage_now (told (job_after mix env job did.old)).0 ≡ to
+          → UndoesInStage from job steps → StandsInStage g (words_before M mix env events) from steps did.old
+          → UndoesNext (job_after mix env job did.old)
+      undoes_next _ _ (takes_lock free) is then was stands =
+          returning_next (job_after mix env job did.old) Asks then refl
+          (takes_so mix env (words_before M mix env events) job steps did performs is free was)
+      undoes_next _ _ lock_taken is then was stands =
+          let nothing = ap held_of (lock_job job is) in
+          behind_next (job_after mix env job did.old) (same_call mix env job did.old) then
+          (undoes (ap is_returning is)
+          (subst (λ h. Undoes g (words_before M mix env events) c (call_of job) h steps) (sym nothing)
+          (subst (λ ds. Undoes g (words_before M mix env events) c (call_of job) (held_of (works works_at.WorkLock)) ds) (sym was)
+          (nothing_undone (call_of job)))))
+      undoes_next _ _ opened is then was stands =
+          behind_next (job_after mix env job did.old) (same_call mix env job did.old) then (undoes (ap is_returning is) was)
+      undoes_next _ _ stays is then was stands =
+          behind_next (job_after mix env job did.old) (same_call mix env job did.old) then (undoes (ap is_returning is) was)
+      undoes_next _ _ asks_on is then was stands =
+          returning_next (job_after mix env job did.old) Asks then refl
+          (returns_goes mix env (words_before M mix env events) job steps did performs Asks Asks asks_on is refl stands was)
+      undoes_next _ _ (to_shape slot) is then was stands =
+          returning_next (job_after mix env job did.old) (Loads slot) then refl
+          (returns_goes mix env (words_before M mix env events) job steps did performs Asks (Loads slot) (to_shape slot) is refl stands was)
+      undoes_next _ _ asked_all is then was stands =
+          opening_next (job_after mix env job did.old) then
+          (returns_goes mix env (words_before M mix env events) job steps did performs Asks Opens asked_all is refl stands was)
+      undoes_next _ _ (loaded slot) is then was stands =
+          let to = Gives slot (shape_seen g did.old) in
+          returning_next (job_after mix env job did.old) to then refl
+          (returns_goes mix env (words_before M mix env events) job steps did performs (Loads slot) to (loaded slot) is refl stands was)
+      undoes_next _ _ (gives_on slot state other) is then was stands =
+          let to = Gives slot (give_table_after_at g state did.old).0 in
+          returning_next (job_after mix env job did.old) to then refl
+          (returns_goes mix env (words_before M mix env events) job steps did performs (Gives slot state) to (gives_on slot state other) is
+          refl stands was)
+      undoes_next _ _ (freed slot) is then was stands =
+          returning_next (job_after mix env job did.old) Asks then refl
+          (returns_goes mix env (words_before M mix env events) job steps did performs (Gives slot free_slot) Asks (freed slot) is refl stands
+          was)
+      undoes_next _ _ (freed_last slot) is then was stands =
+          opening_next (job_after mix env job did.old) then
+          (returns_goes mix env (words_before M mix env events) job steps did performs (Gives slot free_slot) Opens (freed_last slot) is refl
+          stands was)
+
       leads_on : Leads job all (job_after mix env job did.old)
       leads_on =
-          by_next (job_after mix env job did.old) (same_call mix env job did.old) leaves undoes
+          by_next (job_after mix env job did.old) leaves
+          (undoes_next (stage_of job) (stage_now (told (job_after mix env job did.old)).0)
+          (stage_goes mix env performs.caller job did.old performs.within) refl refl kept.undoes giving)
           (stored_then performs.caller job steps did may performs.planned kept.stored)
 
   -- ---- each operation, and the beginning
 
   pub goes : (job : Job) (steps : List Did) (did : Did) (performs : Performs mix env job did) → performs.caller ≡ c
-      → performs.words ≡ words_before M mix env events did.index → CameToEnter g job steps → Going job steps
+      → performs.words ≡ words_before M mix env events did.index
+      → StandsInStage g (words_before M mix env events) (stage_of job) steps did.old → CameToEnter g job steps → Going job steps
       → Leads job (steps ++ did ∷ []) (job_after mix env job did.old)
-  goes job steps did performs own here came (inl past) = past-leads (steps ++ did ∷ []) job did performs past
-  goes job steps did performs own here came (inr (inl says)) =
+  goes job steps did performs own here giving came (inl past) = past-leads (steps ++ did ∷ []) job did performs past
+  goes job steps did performs own here giving came (inr (inl says)) =
       change-leads (steps ++ did ∷ []) job (job_after mix env job did.old)
       (change_stays env.config.kind performs.caller (call_of job) _ _ _ _ (held_of job).answer
       (held_next (job_after mix env job did.old)).answer performs.step.says says)
-  goes job steps did performs own here came (inr (inr kept)) = by_case (is_past job) refl
+  goes job steps did performs own here giving came (inr (inr kept)) = by_case (is_past job) refl
     where
       by_case : (t : Bool) → is_past job ≡ t → Leads job (steps ++ did ∷ []) (job_after mix env job did.old)
       by_case true past = past-leads (steps ++ did ∷ []) job did performs past
-      by_case false may = leads_on job steps did may kept performs own here came
+      by_case false may = leads_on job steps did may kept performs own here giving came
 
   first-stored : (call : Call) (batch : Option BatchModel) → IfSome (first_job env batch call) (λ job. JobStored env job [])
   first-stored (Rebind port owner new) batch = first_rebind-so (λ job. JobStored env job []) env port owner new tt
   first-stored Tidy batch = first_tidy-so (λ job. JobStored env job []) batch (λ own. tt)
   first-stored _ batch = tt
 
+  first-undoes : (call : Call) (batch : Option BatchModel) → IfSome (first_job env batch call) (λ job. UndoesInStage (stage_of job) job [])
+  first-undoes (Rebind port owner new) batch =
+      first_rebind-so (λ job. UndoesInStage (stage_of job) job []) env port owner new (nothing_undone (Rebind port owner new))
+  first-undoes Tidy batch = first_tidy-so (λ job. UndoesInStage (stage_of job) job []) batch (λ own. nothing_undone Tidy)
+  first-undoes Work batch = refl
+  first-undoes call batch = nothing_undone call
+
   -- at first nothing is held, and nothing was turned
   pub begins : (call : Call) (job : Job) → IsFirstJob env call job → Going job []
   begins call job is = inr (inr (record {
-    undoes =
-        subst (λ h. Undoes g (words_before M mix env events) c (call_of job) h []) (sym (first_holds env call job is))
-        (record {
-          even = λ place bit low. inr refl;
-          node_in = λ n is. absurd (cc);
-          slot_in = λ s is. absurd (cc);
-          pages_in = λ page i. absurd i;
-          took = λ page i. absurd i;
-        });
+    undoes = first-of (λ j. UndoesInStage (stage_of j) j []) env call job (first-undoes call) is;
     still = tt;
     stored = first-of (λ j. JobStored env j []) env call job (first-stored call) is;
   }))
@@ -446,7 +584,7 @@ refused M mix env events c admitted =
     (record {
       begins = begins M mix env events c;
       goes = λ job steps did performs own stands saw kept.
-          goes M mix env events c job steps did performs own stands.now
+          goes M mix env events c job steps did performs own stands.now stands.giving
           (saw-came env c (words_before M mix env events) mix job steps saw) kept;
     }) admitted)
     (at_events M mix env events admitted c).past

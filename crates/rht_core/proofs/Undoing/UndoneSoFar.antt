@@ -1,6 +1,6 @@
--- What a call that may still be refused has undone so far: each bit of a word that it has turned an odd
--- number of times is one of what it holds, is in a word of its own node or slot, or may be left turned.
-use Rattle.std.proofs.Common.{◌≡◌, ◌⊎◌, ℕ, ◌+◌, ◌%◌, ◌<◌, List, [], ◌∷◌, ◌++◌, Some, refl, ap, ◌∙◌, inl, inr, arith}
+-- What a call that may still be refused has undone so far: each bit of a word that it has turned an odd number of times is one of what it
+-- holds, is in a word of its own node or slot, or may be left turned; or it gave back with it what was a retired table's.
+use Rattle.std.proofs.Common.{◌≡◌, ◌⊎◌, ℕ, ◌+◌, ◌%◌, ◌<◌, List, [], ◌∷◌, ◌++◌, Some, None, refl, ap, ◌∙◌, inl, inr, arith}
 use Rattle.std.proofs.lemmas.List.{append_assoc}
 use Rattle.rht_words.specs.declared.geometry.Geometry.{Geometry}
 use Rattle.rht_words.specs.declared.op.Op.TheVariants.{Exchange}
@@ -11,9 +11,10 @@ use Rattle.rht_words.proofs.EachElement.{AllByRecursion-push, Any-append_left}
 use Rattle.rht_model.specs.declared.history.Call.{Call}
 use Rattle.rht_arena.specs.RunLaws.{TakesPage, GivesPage}
 use Rattle.rht_core.specs.Traces.{Did, performed_of}
-use Rattle.rht_core.specs.Refused.{turned, turns, IsTableWord, GivesBackNode, GivesBackSlot, IsOfNodeGiven, IsOfSlotGiven, IsOfAttached, PutsPage, HasTaken, EnteredWhenTaken, IsExcepted}
+use Rattle.rht_core.specs.Refused.{turned, IsTableWord, GivesBackNode, GivesBackSlot, IsOfNodeGiven, IsOfSlotGiven, IsOfAttached, PutsPage, HasTaken, EnteredWhenTaken, IsExcepted}
 use Rattle.rht_ghost.proofs.Theory.Steps.{Holding}
-use Rattle.rht_core.proofs.Undoing.TurnedBits.{turns-push, held_bits}
+use Rattle.rht_core.proofs.Undoing.TurnedBits.{held_bits}
+use Rattle.rht_core.proofs.Undoing.GivenBack.{IsBalanced, returned-more, balanced-push}
 
 pub one_more : (sum t x y : ℕ) → (sum + x) % 2 ≡ 0 → (t + x + y) % 2 ≡ 0 → (sum + t + y) % 2 ≡ 0
 one_more sum t x y so_far now = omega (arith, so_far, now)
@@ -55,12 +56,12 @@ module _ (g : Geometry) (words_at : ℕ → List ℕ) (c : ℕ) (call : Call) wh
   abbrev pub IsLeft : Holding → List Did → ℕ → ℕ → Type 0
   IsLeft h steps place bit = IsExcepted g words_at c call steps place bit ⊎ IsOwn h place
 
-  -- Of what a call holds after these operations: each bit is turned an odd number of times just where it is
-  -- one of what the call holds, but for words of its own and for those that may be left; its node, its slot
-  -- and its pages are there, and it has taken these.
+  -- Of what a call holds after these operations: each bit is turned an odd number of times just where it is one of what the call holds, but
+  -- for words of its own and for those that may be left, and for what was given back of retired tables; its node, its slot and its pages are
+  -- there, and it has taken these.
   pub record Undoes (h : Holding) (steps : List Did) : Type 0 where
     pub even : (place bit : ℕ) → bit < 64
-        → IsLeft h steps place bit ⊎ ((turns place bit steps + held_bits g c h place bit) % 2 ≡ 0)
+        → IsLeft h steps place bit ⊎ IsBalanced g words_at call None place bit steps (held_bits g c h place bit)
     pub node_in : (node : ℕ) → h.node ≡ Some node → node < g.nodes
     pub slot_in : (slot : ℕ) → h.slot ≡ Some slot → slot < 8
     pub pages_in : (page : ℕ) → In page h.pages → page < g.pages
@@ -198,10 +199,8 @@ module _ (g : Geometry) (words_at : ℕ → List ℕ) (c : ℕ) (call : Call) wh
         ])
         | inr even ↦ elim (keeps.turn place bit low) [
           | inl left ↦ inl left
-          | inr now ↦ inr (
-              ap (λ n. (n + held_bits g c h' place bit) % 2) (turns-push place bit steps did)
-              ∙ one_more (turns place bit steps) (turned place bit did) (held_bits g c h place bit)
-              (held_bits g c h' place bit) even now)
+          | inr now ↦ inr (balanced-push g words_at call None None place bit steps did (held_bits g c h place bit)
+              (returned-more g words_at None place bit steps did) (held_bits g c h' place bit) now even)
         ]
       ];
       node_in = keeps.node_in;

@@ -1,27 +1,33 @@
 -- Operations after which a call that changes nothing hasn't undone what it did, the fewest of each kind: a bind that never unlocks an empty
 -- bucket, or enters a page that it never took, which is the same exchange; one that enters a page where none is missing, or that came to no
 -- table before, whatever the words say; one that leaks a slot which it had made a table in and given back before; a resizing that leaves
--- the work lock taken; a look-up that leaves its bucket locked; and one that never leaves its section.
+-- the work lock taken; a look-up that leaves its bucket locked; one that never leaves its section; and a resizing that gives back a page
+-- which is none of the retired table's that it takes down.
 use Rattle.std.proofs.Common.{◌≡◌, ◌≢◌, ◌⊎◌, ℕ, ◌+◌, ◌*◌, ◌/◌, ◌%◌, ◌<◌, Bool, true, List, [], ◌∷◌, ◌++◌, length, length-append, refl, sym, ap, ◌∙◌, subst, inl, inr, arith}
 use Rattle.std.specs.List.{AllByRecursion, Any}
 use Rattle.rht_words.specs.declared.env.Env.{Env}
 use Rattle.rht_words.specs.declared.geometry.Geometry.{Geometry}
 use Rattle.rht_words.specs.declared.op.Op.{Op}
 use Rattle.rht_words.specs.declared.op.Op.TheVariants.{Load, Store, Exchange, Add, And}
-use Rattle.rht_words.specs.Places.{CurrentTable, NextSerial, WorkLock, Section, Slot, SlotWord, FutureWord, StateWord, LoadedSection, PageMap, PageWord, words_in, place_of}
+use Rattle.rht_words.specs.Operations.{word_after}
+use Rattle.std.specs.Int.{bit_at}
+use Rattle.rht_words.specs.Places.{CurrentTable, NextSerial, WorkLock, Section, Slot, SlotWord, ShapeWord, FutureWord, StateWord, LoadedSection, PageMap, PageWord, words_in, place_of}
 use Rattle.rht_words.proofs.EachElement.{AllByRecursion-cut}
 use Rattle.rht_words.proofs.PlacesApart.{parts_in_order}
 use Rattle.rht_model.specs.declared.history.Call.{Call}
 use Rattle.rht_model.specs.declared.history.Call.TheVariants.{Bind, Find, Work}
 use Rattle.rht_model.specs.declared.history.Reply.{Reply}
-use Rattle.rht_model.specs.declared.history.Reply.TheVariants.{Found, Missing}
+use Rattle.rht_model.specs.declared.history.Reply.TheVariants.{Found, Missing, Idle}
 use Rattle.rht_model.specs.Answers.{is_refusal}
 use Rattle.rht_model.specs.Endings.{plain_ending, ended_with}
 use Rattle.rht_core.specs.declared.event.Event.{Event}
 use Rattle.rht_core.specs.Traces.{Did, Past}
 use Rattle.rht_core.specs.Seen.{CameTo, as_current, as_future, words_before}
 use Rattle.rht_core.specs.ResizeCauses.{Attaches}
-use Rattle.rht_core.specs.Refused.{changes_nothing, turned, turns, IsTableWord, GivesBackNode, GivesBackSlot, AttachedWith, IsMissingEntry, PutsPage, EnteredWhenTaken, IsExcepted, IsUndone}
+use Rattle.rht_core.specs.Refused.{changes_nothing, turned, turns, IsTableWord, GivesBackNode, GivesBackSlot, AttachedWith, IsMissingEntry, PutsPage, EnteredWhenTaken, IsExcepted, IsEvenButReturn, IsUndone}
+use Rattle.rht_core.specs.Reach.{SetsBit}
+use Rattle.rht_core.specs.Returned.{IsReturn}
+use Rattle.rht_core.specs.TablePages.{IsPageOfTable}
 use Rattle.rht_core.proofs.Histories.Behind.{Any-push_cases, Any-none}
 use Rattle.rht_core.proofs.Reasons.WorkedPages.{none_is}
 use Rattle.rht_core.proofs.Undoing.TurnedBits.{turned-here, turned-far, turned-same, turned-adds}
@@ -30,12 +36,21 @@ use Rattle.rht_core.proofs.Undoing.TurnedBits.{turned-here, turned-far, turned-s
 abbrev done : Op → ℕ → Did
 done op old = record { index = 0; op = op; old = old }
 
--- this bit was turned an odd number of times, and nothing excepts it, where these are the words before each event
+-- This bit was turned an odd number of times, and nothing excepts it, where these are the words before each event; nor is there an operation of
+-- a resizing among them that gives back what the bit says of a retired table, all others having turned it an even number of times.
 pub record Breaks (g : Geometry) (words_at : ℕ → List ℕ) (call : Call) (steps : List Did) (place bit : ℕ) : Type 0 where
   pub place_in : place < words_in g
   pub bit_in : bit < 64
   pub odd : turns place bit steps % 2 ≡ 1
   pub unexcepted : (c : ℕ) → IsExcepted g words_at c call steps place bit → ⊥
+  pub unreturned : call ≡ Work → IsEvenButReturn g words_at place bit steps → ⊥
+
+-- binds and look-ups are no resizings
+bind_not_work : (port owner : ℕ) → Bind port owner true ≡ Work → ⊥
+bind_not_work port owner same = cc
+
+find_not_work : (port : ℕ) → Find port ≡ Work → ⊥
+find_not_work port same = cc
 
 module _ (g : Geometry) (words_at : ℕ → List ℕ) where
   -- none of these operations attaches a table
@@ -71,6 +86,25 @@ module _ (g : Geometry) (words_at : ℕ → List ℕ) where
       let lengths = ap length is in
       let sum = length-append before (at ∷ behind) in
       absurd (omega (arith, lengths, sum))
+
+  -- An exchange alone gives back nothing of a retired table: it is no store, and nothing before it loaded a shape.
+  pub never_returned : (place bit there from to old : ℕ) → IsEvenButReturn g words_at place bit (done (Exchange there from to) old ∷ []) → ⊥
+  never_returned place bit there from to old has = go has.before has.at has.behind has.split has.returns
+    where
+      go : (before : List Did) (at : Did) (behind : List Did) → done (Exchange there from to) old ∷ [] ≡ before ++ at ∷ behind
+          → IsReturn g words_at place bit before at behind → ⊥
+      go [] at behind is (inl slot) =
+          let same : at ≡ done (Exchange there from to) old = (let e = sym is in cc) in
+          let exchanges = ap (λ did. did.op) same in
+          let stores = slot.1.stores in absurd (let both = sym exchanges ∙ stores in cc)
+      go [] at behind is (inr (inl entry)) =
+          let down = entry.2.down in no_split down.sooner down.since down.at down.split
+      go [] at behind is (inr (inr page)) =
+          let down = page.2.down in no_split down.sooner down.since down.at down.split
+      go (first ∷ before) at behind is returns =
+          let lengths = ap length is in
+          let sum = length-append before (at ∷ behind) in
+          absurd (omega (arith, lengths, sum))
 
   -- so an operation alone enters no page that was taken
   pub never_taken : (one : Did) (entry page : ℕ) → EnteredWhenTaken g words_at entry page (one ∷ []) → ⊥
@@ -152,6 +186,7 @@ module _ (g : Geometry) (words_at : ℕ → List ℕ) where
       bit_in = omega arith;
       odd = ap (λ n. (n + 0) % 2) (turned-here bucket 0 locks_it refl);
       unexcepted = unexcepted;
+      unreturned = λ is. never_returned bucket 0 bucket 0 1 0;
     }
       where
         unexcepted : (c : ℕ) → IsExcepted g words_at c call (locks_it ∷ []) bucket 0 → ⊥
@@ -184,6 +219,7 @@ module _ (g : Geometry) (words_at : ℕ → List ℕ) where
         odd = one_turn (turned bucket 0 looks) (turned bucket 0 takes_page) (turned bucket 0 locks_it)
             (turned-same bucket 0 looks (λ at. refl)) (turned-far bucket 0 takes_page apart) (turned-here bucket 0 locks_it refl);
         unexcepted = unexcepted;
+        unreturned = λ is. absurd (bind_not_work port owner is);
       }
         where
           one_turn : (first second third : ℕ) → first ≡ 0 → second ≡ 0 → third ≡ 1 → (first + (second + (third + 0))) % 2 ≡ 1
@@ -250,6 +286,7 @@ module _ (g : Geometry) (words_at : ℕ → List ℕ) where
     bit_in = omega arith;
     odd = refl;
     unexcepted = unexcepted;
+    unreturned = λ is. absurd (bind_not_work port owner is);
   }
     where
       steps : List Did
@@ -296,6 +333,7 @@ module _ (g : Geometry) (words_at : ℕ → List ℕ) where
     bit_in = omega arith;
     odd = refl;
     unexcepted = unexcepted;
+    unreturned = λ is. never_returned (place_of g WorkLock) 0 (place_of g WorkLock) 0 1 0;
   }
     where
       steps : List Did
@@ -325,6 +363,7 @@ module _ (g : Geometry) (words_at : ℕ → List ℕ) where
       bit_in = omega arith;
       odd = ap (λ n. (n + 0) % 2) (turned-adds section section opens refl refl);
       unexcepted = unexcepted;
+      unreturned = λ is. absurd (find_not_work port is);
     }
       where
         unexcepted : (d : ℕ) → IsExcepted g words_at d (Find port) (opens ∷ []) section 0 → ⊥
@@ -336,7 +375,78 @@ module _ (g : Geometry) (words_at : ℕ → List ℕ) where
         unexcepted d (inr (inr (inr (inl attached)))) = attached.0
         unexcepted d (inr (inr (inr (inr own)))) = absurd (let above = own.above in omega (arith, above))
 
--- ---- look-ups that the law refuses
+  -- ---- a resizing that takes down a retired table, and sets the bit of a page which is none of the table's
+
+  module _ (slot shape : ℕ) (slot_in : slot < 8) (pages : 0 < g.pages) (sets : Did) (is_set : SetsBit (place_of g (PageMap 0)) 0 sets)
+      (other : IsPageOfTable g (words_at 0) shape 0 → ⊥) where
+    abbrev map : ℕ
+    map = place_of g (PageMap 0)
+
+    abbrev loads_shape : Did
+    loads_shape = done (Load (place_of g (Slot slot ShapeWord))) shape
+
+    abbrev frees_slot : Did
+    frees_slot = done (Store (place_of g (Slot slot StateWord)) 0) 2
+
+    abbrev pub gives_other : List Did
+    gives_other = loads_shape ∷ sets ∷ frees_slot ∷ []
+
+    behind_slot : (s : ℕ) (word : SlotWord) → s < 8 → IsTableWord word ⊎ (word ≡ StateWord) → map ≡ place_of g (Slot s word) → ⊥
+    behind_slot s (LoadedSection caller) few (inl of_table) same = of_table
+    behind_slot s (LoadedSection caller) few (inr is) same = absurd (let state = is in cc)
+    behind_slot s _ few of_it same = let order = parts_in_order g in absurd (omega (arith, few, same, order.page_map))
+
+    pub gives_others_page : Breaks g words_at Work gives_other map 0
+    gives_others_page = record {
+      place_in = let order = parts_in_order g in omega (arith, pages, order.nodes, order.pages);
+      bit_in = omega arith;
+      odd = one_turn (turned map 0 loads_shape) (turned map 0 sets) (turned map 0 frees_slot)
+          (turned-same map 0 loads_shape (λ at. refl)) (turned-here map 0 sets is_set.on)
+          (turned-far map 0 frees_slot (λ same. behind_slot slot StateWord slot_in (inr refl) (sym same)));
+      unexcepted = unexcepted;
+      unreturned = λ is has. unreturned has.before has.at has.behind has.split has.returns;
+    }
+      where
+        one_turn : (first second third : ℕ) → first ≡ 0 → second ≡ (bit_at sets.old 0 + bit_at (word_after sets.old sets.op) 0) % 2
+            → third ≡ 0 → (first + (second + (third + 0))) % 2 ≡ 1
+        one_turn first second third none one too =
+            let clear = is_set.clear in let set = is_set.set in omega (arith, none, one, too, clear, set)
+
+        unexcepted : (c : ℕ) → IsExcepted g words_at c Work gives_other map 0 → ⊥
+        unexcepted c (inl serial) = let order = parts_in_order g in absurd (omega (arith, serial, order.page_map))
+        unexcepted c (inr (inl node)) =
+            let there = node.there in let order = parts_in_order g in absurd (omega (arith, pages, there, order.nodes))
+        unexcepted c (inr (inr (inl it))) = behind_slot it.slot it.word it.within (inl it.of_table) it.there
+        unexcepted c (inr (inr (inr (inl attached)))) = attached.0
+        unexcepted c (inr (inr (inr (inr own)))) = absurd (let above = own.above in omega (arith, above))
+
+        -- where it loads a shape, the page is none of such a table's
+        OfOthers : Did → Type 0
+        OfOthers did = (s : ℕ) → did.op ≡ Load (place_of g (Slot s ShapeWord)) → IsPageOfTable g (words_at did.index) did.old 0 → ⊥
+
+        sets_loads_none : OfOthers sets
+        sets_loads_none s loads of =
+            let same = ap (λ op. bit_at (word_after sets.old op) 0) loads in
+            let clear = is_set.clear in let set = is_set.set in absurd (omega (arith, same, clear, set))
+
+        each_of_others : AllByRecursion OfOthers gives_other
+        each_of_others = ((λ s loads of. other of), (sets_loads_none, ((λ s loads of. absurd (let e = loads in cc)), tt)))
+
+        unreturned : (before : List Did) (at : Did) (behind : List Did) → gives_other ≡ before ++ at ∷ behind
+            → IsReturn g words_at map 0 before at behind → ⊥
+        unreturned before at behind is (inl freed) = behind_slot freed.0 StateWord freed.1.slot_in (inr refl) freed.2
+        unreturned before at behind is (inr (inl cleared)) =
+            let there = cleared.3 in let order = parts_in_order g in absurd (omega (arith, pages, there, order.nodes, order.pages))
+        unreturned before at behind is (inr (inr given)) =
+            let there = given.3 in
+            let bit = given.4 in
+            let first : given.1 ≡ 0 = omega (arith, there, bit) in
+            let down = given.2.down in
+            let sooner = (AllByRecursion-cut OfOthers before (at ∷ behind) (subst (AllByRecursion OfOthers) is each_of_others)).0 in
+            let it = (AllByRecursion-cut OfOthers down.sooner (down.at ∷ down.since) (subst (AllByRecursion OfOthers) down.split sooner)).1.0 in
+            it given.0 down.loads (subst (IsPageOfTable g (words_at down.at.index) down.at.old) first given.2.of)
+
+-- ---- look-ups and resizings that the law refuses
 
 module _ (M : Type 0) (mix : ℕ → ℕ → ℕ → ℕ) (env : Env) (events : List Event) (c : ℕ) where
   abbrev words_then : ℕ → List ℕ
@@ -347,7 +457,8 @@ module _ (M : Type 0) (mix : ℕ → ℕ → ℕ → ℕ) (env : Env) (events : 
       → IsUndone M mix env events c past → ⊥
   not_undone past place bit breaks undone = elim (undone.even place bit breaks.place_in breaks.bit_in) [
     | inl excepted ↦ breaks.unexcepted c excepted
-    | inr even ↦ let odd = breaks.odd in absurd (omega (arith, odd, even))
+    | inr (inl even) ↦ let odd = breaks.odd in absurd (omega (arith, odd, even))
+    | inr (inr (works, returns)) ↦ breaks.unreturned works returns
   ]
 
   -- what the law says of a call, where it speaks of the calls that this picks out
@@ -391,3 +502,14 @@ module _ (M : Type 0) (mix : ℕ → ℕ → ℕ → ℕ) (env : Env) (events : 
       → Says changes_nothing
       (record { done = ended_with (Find port) (plain_ending Missing); begin = 0; steps = opens env.geometry words_then c few ∷ [] }) → ⊥
   stayed_broken few port says = not_undone _ _ 0 (keeps_section env.geometry words_then c few port) (says refl)
+
+  -- and a resizing that had nothing to do but to give back retired tables, and gives back a page which is none of theirs
+  pub returned_broken : (slot shape : ℕ) (slot_in : slot < 8) (pages : 0 < env.geometry.pages) (sets : Did)
+      (is_set : SetsBit (place_of env.geometry (PageMap 0)) 0 sets) (other : IsPageOfTable env.geometry (words_then 0) shape 0 → ⊥)
+      → Says changes_nothing (record {
+        done = ended_with Work (plain_ending Idle);
+        begin = 0;
+        steps = gives_other env.geometry words_then slot shape slot_in pages sets is_set other;
+      }) → ⊥
+  returned_broken slot shape slot_in pages sets is_set other says =
+      not_undone _ _ 0 (gives_others_page env.geometry words_then slot shape slot_in pages sets is_set other) (says refl)

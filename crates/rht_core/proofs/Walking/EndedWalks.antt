@@ -38,7 +38,7 @@ use Rattle.rht_core.proofs.Walking.LoadedOwners.{loaded_next}
 use Rattle.rht_core.proofs.Walking.OwnersLead.{loaded_after}
 use Rattle.rht_core.proofs.Walking.WalkFacts.{HasWalkedTo}
 use Rattle.rht_core.proofs.Walking.WalkOutlives.{walked_still}
-use Rattle.rht_core.proofs.Walking.WalksAtEvents.{R, MissedOf, BoundOf, WasLast, AreCounted, Walks, IsMissedIn, IsBoundIn, HasWalked, PastWalks, JobWalks, CallerWalks, same_next, is_walk, owners_said, none_found, one_found, M, M', G', longer, grow, count', count_old, count_new, last_later, missed_later, bound_later, then_places, outlives, goes_on}
+use Rattle.rht_core.proofs.Walking.WalksAtEvents.{R, MissedOf, BoundOf, WasLast, AreCounted, Walks, IsMissedIn, IsBoundIn, HasWalked, PastWalks, JobWalks, CallerWalks, same_next, is_walk, owners_said, none_found, one_found, M, M', G', longer, tables, count', count_old, count_new, last_later, missed_later, bound_later, then_places, outlives, goes_on}
 
 -- a walk's room has room for as many as before
 pub room_limit : (state : WalkAt) (room : Pairs) (word : ℕ) → (room_after state room word).limit ≡ room.limit
@@ -121,7 +121,8 @@ module _ (L : Type 0) (mix : ℕ → ℕ → ℕ → ℕ) (env : Env) (events : 
             past.done.pairs (M L mix env events event looking turn of_ports count counted) looking.placed.ghost looking.placed.places
             looking.placed.inv.whole
             (M' L mix env events event looking turn of_ports count counted) (G' L mix env events event looking turn of_ports count counted)
-            (grow L mix env events event looking turn of_ports count counted)
+            (tables L mix env events event looking turn of_ports count counted).low
+            (tables L mix env events event looking turn of_ports count counted).grow
             (count behind) (counts behind) (omega (arith, rises, end)) (omega (arith, same)) to was.walked;
         whole = was.whole;
       }
@@ -164,7 +165,7 @@ module _ (L : Type 0) (mix : ℕ → ℕ → ℕ → ℕ) (env : Env) (events : 
     unfolding next
     ended_walk items to walked =
         let all = count_new L mix env events event looking turn of_ports count counted behind (omega (arith, ends_here)) in
-        let grown = (grow L mix env events event looking turn of_ports count counted).attached in
+        let grown = (tables L mix env events event looking turn of_ports count counted).grow.attached in
         walked_still env mix from begin here (MissedOf L mix env events c begin) (WasLast L mix env count begin here)
         (BoundOf L mix env events c begin) (IsMissedIn L mix env all_events begin behind) (WasLast L mix env counts begin behind)
         (IsBoundIn L mix env all_events begin behind) missed_by
@@ -173,7 +174,8 @@ module _ (L : Type 0) (mix : ℕ → ℕ → ℕ → ℕ) (env : Env) (events : 
         bound_by items (M L mix env events event looking turn of_ports count counted) looking.placed.ghost looking.placed.places
         looking.placed.inv.whole
         (M' L mix env events event looking turn of_ports count counted) (G' L mix env events event looking turn of_ports count counted)
-        (grow L mix env events event looking turn of_ports count counted)
+        (tables L mix env events event looking turn of_ports count counted).low
+        (tables L mix env events event looking turn of_ports count counted).grow
         looking.placed.ghost.attached (counts behind) (omega arith) (omega (arith, all, grown)) to walked
 
   -- ---- the operation of a caller, which was the next event

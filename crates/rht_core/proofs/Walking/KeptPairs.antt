@@ -169,6 +169,7 @@ module _ (env : Env) (mix : ℕ → ℕ → ℕ → ℕ) (from : Option Cursor) 
     of = record { serial_is = chained.of.serial_is; fits = chained.of.fits };
     low = chained.low;
     place_is = chained.place_is;
+    page_is = chained.page_is;
     since = chained.since;
     began = chained.began;
     so_far = chained.so_far;

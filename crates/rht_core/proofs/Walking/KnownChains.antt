@@ -26,7 +26,7 @@ use Rattle.rht_core.proofs.Finding.BucketHeads.{bucket_right, head_placed}
 use Rattle.rht_core.proofs.Finding.PortPlaces.{PortPlacesRight, sits_first, number_is, ends_or_leads}
 use Rattle.rht_core.proofs.Walking.ShownNodes.{map-In}
 use Rattle.rht_core.proofs.Walking.SlotsOfTables.{reached, missed, none_behind}
-use Rattle.rht_core.proofs.Walking.TablesOfWalks.{walked_there, walked_number, walked_table, heading_here, heading_leads}
+use Rattle.rht_core.proofs.Walking.TablesOfWalks.{walked_there, walked_number, walked_table, heading_here, heading_leads, walked_page}
 use Rattle.rht_core.proofs.Walking.WalkFacts.{ports_of, Said, StageIs, RoomKnown, IsPassed, BucketsKnown, IsAt, IsBehind, IsInChain, HereAtKey, HereAtLink, IsAtOwner}
 
 module _ (env : Env) (mix : ℕ → ℕ → ℕ → ℕ) (from : Option Cursor) (begin now : ℕ) (Missed WasLast : ℕ → Type 0) (Bound : ℕ × ℕ → Type 0)
@@ -129,6 +129,7 @@ module _ (env : Env) (mix : ℕ → ℕ → ℕ → ℕ) (from : Option Cursor) 
           of = at.of;
           low = at.low;
           place_is = here_is;
+          page_is = walked_page env mix words G whole visit within tied.walked j here_is;
           since = now;
           began = began;
           so_far = omega arith;
@@ -236,6 +237,7 @@ module _ (env : Env) (mix : ℕ → ℕ → ℕ → ℕ) (from : Option Cursor) 
         of = at.of;
         low = at.low;
         place_is = at.place_is;
+        page_is = at.page_is;
         since = at.since;
         began = at.began;
         so_far = at.so_far;
@@ -274,6 +276,7 @@ module _ (env : Env) (mix : ℕ → ℕ → ℕ → ℕ) (from : Option Cursor) 
       of = record { serial_is = at.of.serial_is; fits = at.of.fits };
       low = at.low;
       place_is = at.place_is;
+      page_is = at.page_is;
       since = at.since;
       began = at.began;
       so_far = at.so_far;

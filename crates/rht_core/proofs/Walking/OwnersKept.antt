@@ -40,6 +40,7 @@ module _ (env : Env) (mix : ℕ → ℕ → ℕ → ℕ) (seen : ℕ → Bool) (
     pub word : ℕ
     pub at : ℕ
     pub here : (G.table (index_at G slot)).place number ≡ Some word
+    pub page : G.page (word / 64) ≡ PageOf (index_at G slot)
     pub is : P.place word n ≡ Some at
     pub stood : Where number at
 
@@ -72,6 +73,7 @@ module _ (env : Env) (mix : ℕ → ℕ → ℕ → ℕ) (seen : ℕ → Bool) (
 
   pub record AtNode (chain : Chain) (m : ℕ) (least : ℕ → ℕ) : Type 0 where
     pub here : (G.table (index_at G chain.visit.table)).place chain.visit.bucket ≡ Some (word_index env mix chain.place)
+    pub page : G.page (word_index env mix chain.place / 64) ≡ PageOf (index_at G chain.visit.table)
     pub stands : IsOut chain.visit.table m ⊎ IsIn chain m least
 
   -- before a bucket, and behind one

@@ -1,5 +1,5 @@
 -- Each operation of a walk that has shown each owner that it loaded leads on so, or it has to begin anew.
-use Rattle.std.proofs.Common.{◌≡◌, ◌⊎◌, ℕ, ◌+◌, ◌<◌, ◌≤◌, nat_lt, nat_le, Bool, true, List, [], ◌∷◌, ◌++◌, length, Option, Some, None, refl, sym, ◌∙◌, ap, subst, inl, inr, arith}
+use Rattle.std.proofs.Common.{◌≡◌, ◌⊎◌, ℕ, ◌+◌, ◌/◌, ◌<◌, ◌≤◌, nat_lt, nat_le, Bool, true, List, [], ◌∷◌, ◌++◌, length, Option, Some, None, refl, sym, ◌∙◌, ap, subst, inl, inr, arith}
 use Rattle.std.specs.Prelude.{◌==◌}
 use Rattle.std.specs.List.{AllByRecursion}
 use Rattle.std.proofs.lemmas.Bool.{cond_both, eqb-true}
@@ -30,10 +30,10 @@ use Rattle.rht_walk.specs.declared.walk.WalkEnd.TheVariants as ends
 use Rattle.rht_walk.specs.declared.walk.WalkAt.{WalkAt}
 use Rattle.rht_walk.specs.declared.walk.WalkAt.TheVariants as at
 use Rattle.rht_ghost.proofs.Pieces.TableLoads.{LeadsBehind, future_leads}
-use Rattle.rht_ghost.proofs.Theory.Ghosts.{Ghost, index_at, table_of_page, table_at, some-same}
+use Rattle.rht_ghost.proofs.Theory.Ghosts.{Ghost, index_at, table_of_page, table_at, some-same, PageOf}
 use Rattle.rht_ghost.proofs.Theory.SeatedLinks.{link_of-one}
 use Rattle.rht_ghost.proofs.Theory.Steps.{mem}
-use Rattle.rht_ghost.proofs.Theory.Wholes.{chain_of, key_of, hash_in, place_at, word_index, index-place_at, Whole}
+use Rattle.rht_ghost.proofs.Theory.Wholes.{chain_of, key_of, hash_in, place_at, word_index, index-place_at, Whole, IsThere}
 use Rattle.rht_core.proofs.Finding.BucketHeads.{bucket_right}
 use Rattle.rht_core.proofs.Finding.Falling.{one_place}
 use Rattle.rht_core.proofs.Finding.Places.{Places, PlacesRight}
@@ -43,7 +43,7 @@ use Rattle.rht_core.proofs.Walking.KeptPairs.{with_room}
 use Rattle.rht_core.proofs.Walking.OwnersKept.{owners_of, IsHigher, AreShown, IsEmpty, HasStood, AreShownOnce, HasBehind, IsOut, IsIn, AtNode, BeforeBucket, BehindBucket, KeepsOwners}
 use Rattle.rht_core.proofs.Walking.ShownNodes.{fewer}
 use Rattle.rht_core.proofs.Walking.SlotsOfTables.{index_is}
-use Rattle.rht_core.proofs.Walking.TablesOfWalks.{walked_there, walked_number, walked_table, heading_here, heading_leads}
+use Rattle.rht_core.proofs.Walking.TablesOfWalks.{walked_there, walked_number, walked_table, heading_here, heading_leads, walked_page}
 
 -- the owners that were loaded, with that of an operation
 abbrev pub loaded_after : WalkAt → List ℕ → ℕ → List ℕ
@@ -95,6 +95,7 @@ module _ (env : Env) (mix : ℕ → ℕ → ℕ → ℕ) (seen : ℕ → Bool) (
             word = had.word;
             at = had.at;
             here = had.here;
+            page = had.page;
             is = had.is;
             stood = so had.number had.at had.stood;
           };
@@ -173,6 +174,9 @@ module _ (env : Env) (mix : ℕ → ℕ → ℕ → ℕ) (seen : ℕ → Bool) (
       abbrev j : ℕ
       j = word_index env mix chain.place
 
+      page_here : G.page (j / 64) ≡ PageOf τ
+      page_here = walked_page env mix words G whole chain.visit within walked j here
+
       table_here : table_at G j ≡ τ
       table_here = walked_table env mix words G whole chain.visit within walked j here
 
@@ -181,6 +185,7 @@ module _ (env : Env) (mix : ℕ → ℕ → ℕ → ℕ) (seen : ℕ → Bool) (
       out_so link out = record {
         to_node = λ n leads. record {
           here = here;
+          page = page_here;
           stands = elim out.to [
             | inl end ↦ absurd (let both = sym end ∙ leads in omega (arith, both))
             | inr on ↦ inl (record {
@@ -223,6 +228,7 @@ module _ (env : Env) (mix : ℕ → ℕ → ℕ → ℕ) (seen : ℕ → Bool) (
       way_so link p (inr (inr on)) behind lower = record {
         to_node = λ n leads. record {
           here = here;
+          page = page_here;
           stands = inr (record {
             at = on.at;
             is = ap (P.place j) (link_of-one n on.next (sym leads ∙ on.leads)) ∙ on.placed;
@@ -240,7 +246,8 @@ module _ (env : Env) (mix : ℕ → ℕ → ℕ → ℕ) (seen : ℕ → Bool) (
           let table = ap table_of_page out.of in
           let later = out.later in
           out_so (chain_of M m) (leads_out env mix M G P now whole right of_ports τ out.bucket out.at (chain_of M m)
-          (omega (arith, table, later)) (key_of M m) (of_ports.homes out.bucket m out.at out.is)
+          (omega (arith, table, later)) (subst (IsThere G) (sym table) (whole.pages.there (out.bucket / 64) out.table out.of))
+          (key_of M m) (of_ports.homes out.bucket m out.at out.is)
           (ends_or_leads env mix M G P now whole right of_ports out.bucket m out.at out.is))
       link_so m (inr is) =
           way_so (chain_of M m) is.at (ends_or_leads env mix M G P now whole right of_ports j m is.at is.is)
@@ -346,6 +353,7 @@ module _ (env : Env) (mix : ℕ → ℕ → ℕ → ℕ) (seen : ℕ → Bool) (
                 word = had.word;
                 at = had.at;
                 here = had.here;
+                page = had.page;
                 is = had.is;
                 stood = higher had.number had.at had.stood;
               }
@@ -356,6 +364,7 @@ module _ (env : Env) (mix : ℕ → ℕ → ℕ → ℕ) (seen : ℕ → Bool) (
                 word = word;
                 at = is.at;
                 here = at.here;
+                page = at.page;
                 is = is.is;
                 stood = inr (refl, omega arith);
               })
@@ -374,6 +383,7 @@ module _ (env : Env) (mix : ℕ → ℕ → ℕ → ℕ) (seen : ℕ → Bool) (
     owner_kept : AtNode env mix seen more (loaded ++ owner ∷ []) G P chain m (λ at. at)
     owner_kept = record {
       here = at.here;
+      page = at.page;
       stands = elim at.stands [
         | inl out ↦ inl (record {
           bucket = out.bucket;

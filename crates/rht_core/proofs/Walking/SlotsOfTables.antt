@@ -1,42 +1,46 @@
 -- Where a slot has a table, it has the same one behind an operation; so what is said of a walk's table may name it by its slot.
-use Rattle.std.proofs.Common.{◌≡◌, ℕ, ◌+◌, ◌<◌, Bool, true, Some, None, sym, ◌∙◌, ap, subst, arith}
+use Rattle.std.proofs.Common.{◌≡◌, ℕ, ◌+◌, ◌<◌, ◌≤◌, Bool, true, Some, None, sym, ◌∙◌, ap, subst, arith}
 use Rattle.rht_words.specs.declared.env.Env.{Env}
 use Rattle.rht_words.proofs.Memory.{Memory}
 use Rattle.rht_ghost.proofs.Theory.Ghosts.{Ghost, has_table, index_at}
-use Rattle.rht_ghost.proofs.Theory.Passed.{TablesGrow, less-grown}
-use Rattle.rht_ghost.proofs.Theory.Wholes.{Whole, IsThere, IsAt, home, slot-there, at-there}
+use Rattle.rht_ghost.proofs.Theory.Passed.{GrowsFrom, less-grown, there_from-from}
+use Rattle.rht_ghost.proofs.Theory.Wholes.{Whole, IsThere, AreThereFrom, IsAt, home, slot-there, at-there}
 use Rattle.rht_core.proofs.Finding.Deaths.{DeathsRight}
 use Rattle.rht_core.proofs.Finding.Places.{Places, PlacesRight}
 use Rattle.rht_core.proofs.Finding.Stages.{Stage, Reaching, Heading, Ending, StageMeans}
 use Rattle.rht_core.proofs.Finding.StageSteps as steps
 
--- the slot has a table that has been attached
+-- the slot has a table that has been attached, and all behind it are there
 pub record IsAttached (G : Ghost) (slot : ℕ) : Type 0 where
   pub table : has_table (G.slot slot) ≡ true
   pub attached : index_at G slot < G.attached
+  pub on : AreThereFrom G (index_at G slot)
 
 module _ (env : Env) (mix : ℕ → ℕ → ℕ → ℕ) (M : Memory) (G : Ghost) (whole : Whole env mix M G) where
   -- the slot of a table that a caller knows has it
   pub index_is : (slot : ℕ) (at : IsAt G slot) → index_at G slot ≡ at.table
-  index_is slot at = ap (index_at G) (sym at.slot_is) ∙ (at-there env mix whole.tables slot at).index
+  index_is slot at = ap (index_at G) (sym at.slot_is) ∙ (at-there at).index
 
   pub attached_at : (slot : ℕ) → IsAt G slot → IsAttached G slot
   attached_at slot at = record {
-    table = subst (λ s. has_table (G.slot s) ≡ true) at.slot_is (at-there env mix whole.tables slot at).has_slot;
+    table = subst (λ s. has_table (G.slot s) ≡ true) at.slot_is (at-there at).has_slot;
     attached = omega (arith, index_is slot at, at.attached);
+    on = subst (AreThereFrom G) (sym (index_is slot at)) at.on;
   }
 
   abbrev pub at_attached : (slot : ℕ) → IsAttached G slot → IsAt G slot
   at_attached slot of =
-      let is = whole.tables.slots slot of.table in record { table = index_at G slot; attached = is.attached; slot_is = is.slot }
+      let is = whole.tables.slots slot of.table in
+      record { table = index_at G slot; attached = is.attached; slot_is = is.slot; on = of.on }
 
   -- and behind an operation
-  module _ (G' : Ghost) (grow : TablesGrow env mix G G') (slot : ℕ) (of : IsAttached G slot) where
+  module _ (low : ℕ) (G' : Ghost) (grow : GrowsFrom env mix low G G') (slot : ℕ) (of : IsAttached G slot)
+      (from : low ≤ index_at G slot) where
     abbrev τ : ℕ
     τ = index_at G slot
 
     there_still : IsThere G' τ
-    there_still = grow.there τ (less-grown env mix of.attached grow.attached) (λ l. slot-there env mix whole.tables slot of.table)
+    there_still = grow.there τ from (less-grown env mix of.attached grow.attached) (λ l. slot-there env mix whole.tables slot of.table)
 
     slot_still : (G'.table τ).slot ≡ slot
     slot_still = (grow.tables τ of.attached).slot ∙ (whole.tables.slots slot of.table).slot
@@ -48,6 +52,7 @@ module _ (env : Env) (mix : ℕ → ℕ → ℕ → ℕ) (M : Memory) (G : Ghost
     attached_stays = record {
       table = subst (λ s. has_table (G'.slot s) ≡ true) slot_still there_still.has_slot;
       attached = let more = grow.attached in let low = of.attached in omega (arith, index_stays, more, low);
+      on = subst (AreThereFrom G') (sym index_stays) (there_from-from env mix low G G' grow τ from of.on);
     }
 
 -- ---- stages by slots

@@ -1,5 +1,5 @@
 -- The table that a walk is in, named by its slot: it is there, it has the bucket at which the walk is, and where that bucket's word leads.
-use Rattle.std.proofs.Common.{◌≡◌, ℕ, ◌<◌, List, Some, refl, sym, subst}
+use Rattle.std.proofs.Common.{◌≡◌, ℕ, ◌<◌, List, Some, refl, sym, subst, ◌/◌}
 use Rattle.rht_words.specs.declared.env.Env.{Env}
 use Rattle.rht_words.specs.declared.op.Op.TheVariants.{Load}
 use Rattle.rht_words.specs.Links.{head_of}
@@ -8,8 +8,8 @@ use Rattle.rht_words.specs.Places.{IsBucketPlace}
 use Rattle.rht_words.specs.Shapes.{unpacked, size_of}
 use Rattle.rht_walk.specs.Walk.{IsVisitIn}
 use Rattle.rht_walk.specs.declared.walk.Visit.{Visit}
-use Rattle.rht_ghost.proofs.Theory.Ghosts.{Ghost, index_at, table_at}
-use Rattle.rht_ghost.proofs.Theory.Passed.{place-table}
+use Rattle.rht_ghost.proofs.Theory.Ghosts.{Ghost, index_at, table_at, PageOf}
+use Rattle.rht_ghost.proofs.Theory.Passed.{place-table, place-word}
 use Rattle.rht_ghost.proofs.Theory.Steps.{mem}
 use Rattle.rht_ghost.proofs.Theory.Wholes.{place_at, word_index, Whole, IsThere, at-there}
 use Rattle.rht_core.proofs.Finding.BucketHeads.{loaded_head}
@@ -26,14 +26,17 @@ module _ (env : Env) (mix : ℕ → ℕ → ℕ → ℕ) (words : List ℕ) (G :
     same_table = index_is env mix (mem env mix words) G whole visit.table walked.of
 
     pub walked_there : IsThere G τ
-    walked_there = subst (IsThere G) (sym same_table) (at-there env mix whole.tables visit.table walked.of)
+    walked_there = subst (IsThere G) (sym same_table) (at-there walked.of)
 
     pub walked_number : visit.bucket < size_of (unpacked (G.table τ).shape)
     walked_number =
         subst (λ σ. visit.bucket < size_of (unpacked (G.table σ).shape)) (sym same_table)
         (number_below env mix words G whole visit within walked)
 
-    -- the table of a bucket that has its number there
+    -- the page of a bucket that has its number there, and its table
+    pub walked_page : (j : ℕ) → (G.table τ).place visit.bucket ≡ Some j → G.page (j / 64) ≡ PageOf τ
+    walked_page j is = (place-word env mix (mem env mix words) G whole τ visit.bucket j walked_there walked_number is).of
+
     pub walked_table : (j : ℕ) → (G.table τ).place visit.bucket ≡ Some j → table_at G j ≡ τ
     walked_table j is = place-table env mix (mem env mix words) G whole τ visit.bucket j walked_there walked_number is
 

@@ -1,6 +1,6 @@
 -- What a walk knows in each of its states, by the words and the ghost of one moment: which ports were bound nowhere meanwhile, which are
 -- shown, and which it may come to still. All of it but that nodes were first ones late is said where no table is behind the walked one.
-use Rattle.std.proofs.Common.{◌≡◌, ◌⊎◌, ℕ, ◌+◌, ◌<◌, ◌≤◌, Bool, true, List, [], map, Option, Some, None}
+use Rattle.std.proofs.Common.{◌≡◌, ◌⊎◌, ℕ, ◌+◌, ◌<◌, ◌≤◌, Bool, true, List, [], map, Option, Some, None, ◌/◌}
 use Rattle.std.specs.List.{AllByRecursion}
 use Rattle.rht_words.specs.declared.env.Env.{Env}
 use Rattle.rht_words.specs.Members.{In, IsDistinct}
@@ -13,7 +13,7 @@ use Rattle.rht_walk.specs.declared.walk.WalkEnd.{WalkEnd}
 use Rattle.rht_walk.specs.declared.walk.WalkEnd.TheVariants as ends
 use Rattle.rht_walk.specs.declared.walk.WalkAt.{WalkAt}
 use Rattle.rht_walk.specs.declared.walk.WalkAt.TheVariants as at
-use Rattle.rht_ghost.proofs.Theory.Ghosts.{Ghost, index_at}
+use Rattle.rht_ghost.proofs.Theory.Ghosts.{Ghost, index_at, PageOf}
 use Rattle.rht_ghost.proofs.Theory.Wholes.{key_of, hash_in, word_index}
 use Rattle.rht_core.proofs.Finding.Places.{Places}
 use Rattle.rht_core.proofs.Finding.Deaths.{IsLate}
@@ -153,6 +153,7 @@ module _ (env : Env) (mix : ℕ → ℕ → ℕ → ℕ) where
       pub of : OfTable chain.visit
       pub low : first ≤ chain.visit.bucket
       pub place_is : (G.table (index_at G chain.visit.table)).place chain.visit.bucket ≡ Some (word_index env mix chain.place)
+      pub page_is : G.page (word_index env mix chain.place / 64) ≡ PageOf (index_at G chain.visit.table)
       pub since : ℕ
       pub began : begin + 1 ≤ since
       pub so_far : since ≤ now

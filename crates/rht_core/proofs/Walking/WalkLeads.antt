@@ -111,7 +111,7 @@ module _ (env : Env) (mix : ℕ → ℕ → ℕ → ℕ) (from : Option Cursor) 
           let missing =
           subst (λ τ. (G.table τ).place visit.bucket ≡ None) (sym (index_is env mix M G whole visit.table of))
           (missing_home env mix ((G.table of.table).place visit.bucket)
-          (sym (way_read env mix M G whole of.table visit.bucket (at-there env mix whole.tables visit.table of)
+          (sym (way_read env mix M G whole of.table visit.bucket (at-there of)
           (number_below env mix words G whole visit within on.walked) way on.to)
           ∙ read_by_entry (words_of_pages M) way env.geometry None same none)) in
           ended visit on.walked (missing_known env mix from begin now Missed WasLast Bound seen items words G P whole right deaths of_ports visit

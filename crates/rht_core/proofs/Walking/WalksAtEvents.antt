@@ -1,12 +1,12 @@
 -- What walks know behind an event: a walk's own operation leads on from what it knows; and what it knows then, as what it knows at an
 -- event of another caller or of none, outlives that event.
-use Rattle.std.proofs.Common.{◌≡◌, ◌⊎◌, ℕ, suc, ◌+◌, ◌<◌, ◌≤◌, nat_lt, Bool, true, false, cond, List, [], ◌∷◌, ◌++◌, length, Option, Some, refl, sym, ◌∙◌, ap, subst, inl, inr, arith}
+use Rattle.std.proofs.Common.{◌≡◌, ◌⊎◌, ℕ, ◌+◌, ◌<◌, ◌≤◌, nat_lt, Bool, true, false, cond, List, [], ◌∷◌, ◌++◌, length, Option, Some, refl, sym, ◌∙◌, ap, subst, inl, inr, arith}
 use Rattle.std.specs.List.{AllByRecursion}
 use Rattle.std.proofs.lemmas.Bool.{cases_lt, lt-ltb, le-ltb}
 use Rattle.std.proofs.lemmas.List.{length_push}
 use Rattle.rht_words.specs.declared.env.Env.{Env}
 use Rattle.rht_words.specs.Operations.{old_of}
-use Rattle.rht_words.specs.Standing.{stands_nowhere}
+use Rattle.rht_words.specs.Standing.{Standing, stands_nowhere}
 use Rattle.rht_words.proofs.Memory.{Memory}
 use Rattle.rht_model.specs.declared.history.Call.{Call}
 use Rattle.rht_model.specs.declared.history.Call.TheVariants as calls
@@ -26,9 +26,11 @@ use Rattle.rht_core.specs.RunHistories.{bindings_behind}
 use Rattle.rht_core.specs.Runs.{Core, local_of, world_step}
 use Rattle.rht_core.specs.Standings.{standing, standing_with}
 use Rattle.rht_core.specs.Traces.{Past, Trace, Traced, traced_of, behind_call}
-use Rattle.rht_ghost.proofs.Theory.Frames.{still}
+use Rattle.rht_ghost.proofs.Theory.Frames.{same_grow, same_tables}
+use Rattle.rht_ghost.proofs.Theory.Wholes.{AreFrom}
 use Rattle.rht_ghost.proofs.Theory.Ghosts.{Ghost}
-use Rattle.rht_ghost.proofs.Theory.Passed.{TablesGrow}
+use Rattle.rht_ghost.proofs.Theory.Passed.{GrowsFrom, grows_from}
+use Rattle.rht_ghost.proofs.Theory.Reliance.{TablesStay}
 use Rattle.rht_ghost.proofs.Theory.Steps.{mem, ghost_after}
 use Rattle.rht_core.proofs.Histories.CallerEntries.{said-more}
 use Rattle.rht_core.proofs.Histories.FittingCallers.{end-is, end-next}
@@ -206,8 +208,8 @@ module _ (L : Type 0) (mix : ℕ → ℕ → ℕ → ℕ) (env : Env) where
     pub longer : length more ≡ now + 1
     longer = length_push events event
 
-    pub grow : TablesGrow env mix G G'
-    grow = (turn.makes.made.others (suc turn.makes.caller) (λ e. absurd (omega arith))).tables.grow
+    abbrev pub tables : TablesStay env mix G G'
+    tables = then_places.stay
 
     -- how many tables are attached then
     abbrev pub count' : ℕ → ℕ
@@ -230,7 +232,7 @@ module _ (L : Type 0) (mix : ℕ → ℕ → ℕ → ℕ) (env : Env) where
               let b = count_new k late in
               let rises = counted.rises i now early (omega arith) in
               let end = counted.at_end in
-              let grown = grow.attached in
+              let grown = tables.grow.attached in
               omega (arith, a, b, rises, end, grown)
         ]
         | inr early ↦
@@ -288,6 +290,7 @@ module _ (L : Type 0) (mix : ℕ → ℕ → ℕ → ℕ) (env : Env) where
           let see = turn.sees c low in
           let is : standing core' c ≡ standing_of_walk state = ap standing_with does in
           let stood = subst (λ at. AllByRecursion (λ n. seen n ≡ true) at.nodes) is see.stands in
+          let from_low = subst (λ (at : Standing). AreFrom tables.low G at.tables) is (see.tables tables.low tables.sections) in
           let turns = subst (λ at. (at ≡ stands_nowhere) ⊎ ((n : ℕ) → seen n ≡ true → turn.then c n ≡ true)) is see.turns in
           record {
             low = low;
@@ -295,16 +298,17 @@ module _ (L : Type 0) (mix : ℕ → ℕ → ℕ → ℕ) (env : Env) where
             roomy = roomy;
             known = walk_outlives env mix from begin now Missed Was Bound (MissedOf more c begin) (WasLast count' begin (length more))
                 (BoundOf more c begin) missed was bound room.items M G placed.places
-                placed.inv.whole M' G' grow (met_now L mix env looking) then_places.places
+                placed.inv.whole M' G' tables.low tables.grow (met_now L mix env looking) then_places.places
                 then_places.stages then_places.kept (length more) (omega (arith, longer)) absent_then seen (turn.then c) see.met_too state
-                tied stood turns known;
-            keeps = owners_outlive env mix room.items loaded M G placed.places placed.inv.whole G' grow (met_now L mix env looking)
-                then_places.places then_places.kept seen (turn.then c) see.met_too state tied stood turns keeps;
+                tied stood from_low turns known;
+            keeps = owners_outlive env mix room.items loaded M G placed.places placed.inv.whole tables.low G' tables.grow
+                (met_now L mix env looking) then_places.places then_places.kept seen (turn.then c) see.met_too state tied stood from_low
+                turns keeps;
           }
 
       -- what is known by the events so far is known by those with this one
-      same_grow : TablesGrow env mix G G
-      same_grow = ((still env mix 0 M G placed.inv.whole).others 1 (λ e. absurd (omega (arith, e)))).tables.grow
+      same_tables_grow : GrowsFrom env mix 0 G G
+      same_tables_grow = grows_from env mix G G (same_grow env mix G G (same_tables env mix G G.bucket G.node G.bound G.raised))
 
       missed_now : (port : ℕ) → G.bound port ≡ [] → MissedOf more c begin port
       missed_now port none = missing_said env mix L events event core stands placed c port begin begun none
@@ -317,10 +321,11 @@ module _ (L : Type 0) (mix : ℕ → ℕ → ℕ → ℕ) (env : Env) where
           walk_outlives env mix from begin now (MissedOf events c begin) (WasLast count begin now) (BoundOf events c begin)
           (MissedOf more c begin) (WasLast count' begin (length more)) (BoundOf more c begin) (missed_later c begin)
           (λ τ. last_later begin now τ (omega arith) (length more) (omega (arith, longer))) (bound_later c begin) items M G
-          placed.places placed.inv.whole M G same_grow seen placed.places
-          (λ port seen since began Said Said' said absent seen_met stage stood known.
+          placed.places placed.inv.whole M G 0 same_tables_grow seen placed.places
+          (λ port seen since began Said Said' said absent seen_met stage stood from_low known.
           stage_said env mix port seen since Said Said' said M G placed.places stage known)
-          (λ i n p is at. at) now (omega arith) missed_now seen seen (λ n is. is) state tied stood (inr (λ n is. is)) known
+          (λ i n p is from at. at) now (omega arith) missed_now seen seen (λ n is. is) state tied stood
+          (λ slot there at. omega arith) (inr (λ n is. is)) known
 
       -- what it learns by its own operation
       learns : Learns env mix from begin now (MissedOf more c begin) (WasLast count' begin (length more)) (BoundOf more c begin) seen

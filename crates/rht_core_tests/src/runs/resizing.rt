@@ -119,6 +119,21 @@ fn two_binds_of_a_port_across_an_attach(rt: HostRuntime) -> Result<(), Fail> {
     )
 }
 
+/// The states of all slots, by which a worker sees that none has a retired table: there is one table, in
+/// slot 0.
+fn one_table() -> [(Op, u64); 8] {
+    [
+        (Op::load(28), 1),
+        (Op::load(60), 0),
+        (Op::load(92), 0),
+        (Op::load(124), 0),
+        (Op::load(156), 0),
+        (Op::load(188), 0),
+        (Op::load(220), 0),
+        (Op::load(252), 0),
+    ]
+}
+
 /// With 16 nodes the pages begin at 346. The worker moves the table of 4 buckets, 346 to 349, to one
 /// of 8, 410 to 417. Once it has moved an entry a bind attaches one of 16, from 474 on, and the next
 /// entry goes there.
@@ -132,7 +147,6 @@ fn a_mover_is_overtaken_by_an_attach(rt: HostRuntime) -> Result<(), Fail> {
     };
     let grows = Reply::Bound { kick: true };
     let begun = [
-        (Op::exchange(1, 0, 1), 0),
         (Op::add(9, 1), 0),
         (Op::load(0), 0),
         (Op::load(26), 0),
@@ -209,6 +223,8 @@ fn a_mover_is_overtaken_by_an_attach(rt: HostRuntime) -> Result<(), Fail> {
             replies(bind(5, 3), BOUND),
             replies(bind(6, 4), grows),
             begins(1, Call::Work),
+            steps(1, &[(Op::exchange(1, 0, 1), 0)]),
+            steps(1, &one_table()),
             steps(1, &begun),
             steps(1, &made),
             steps(1, &first_moved),
@@ -274,7 +290,7 @@ fn one_caller_works_at_a_time(rt: HostRuntime) -> Result<(), Fail> {
             enrolls(1),
             begins(0, Call::Work),
             begins(1, Call::Work),
-            steps(0, &[(Op::exchange(1, 0, 1), 0), (Op::add(8, 1), 0)]),
+            steps(0, &[(Op::exchange(1, 0, 1), 0), (Op::load(28), 1)]),
             ends(1, &taken, Call::Work, Reply::Elsewhere),
         ],
     )

@@ -14,13 +14,13 @@ use Rattle.rht_words.specs.Places.{CurrentTable, WorkLock, Slot, SlotWord, Shape
 use Rattle.rht_words.proofs.Memory.{Memory, IsWrite}
 use Rattle.rht_nest.specs.Tables.{table_pages, is_nested, table_seed}
 use Rattle.rht_nest.proofs.MakesMade.{size_of-fits}
-use Rattle.rht_ghost.proofs.Theory.Ghosts.{has_entries, Table, blank_bucket, put, put-same, put-other, put-all, put_in, put_in-there, put_in-all, PageOwner, PageFree, PageHeld, PageOf, SlotOwner, SlotHeld, Live, Ghost, state_word, table_of_slot, has_table, index_at, made_table, is_page_for, with_table, Row, Top, lock_bit, is_entry, is_entry_of, entry_word, table_at, table_of_page}
+use Rattle.rht_ghost.proofs.Theory.Ghosts.{has_entries, Table, blank_bucket, put, put-same, put-other, put-all, put_in, put_in-there, put_in-all, PageOwner, PageFree, PageHeld, PageOf, SlotOwner, Live, Back, Ghost, slot_holder, state_word, table_of_slot, has_table, index_at, made_table, is_page_for, with_table, Row, Top, lock_bit, is_entry, is_entry_of, entry_word, table_at, table_of_page}
 use Rattle.rht_ghost.proofs.Theory.Wholes.{IsThere, live-there, there-attached, one_slot, retired_stay, IsNoBucket, EntriesRight, SlotIsOf, TableRight, TablesRight, SlotsRight, PagesRight, PlacedRight, future_in, Whole, IsFlat, IsNested}
 use Rattle.rht_ghost.proofs.Theory.Ways.{IsSpareIn, StandsAs}
 use Rattle.rht_ghost.proofs.Theory.Readiness.{IsAttaching}
 use Rattle.rht_ghost.proofs.Theory.Frames.{Others, Made, stale_write, same_owners}
 use Rattle.rht_ghost.proofs.Theory.TableFrames.{TablesKept, same_kept, live_kept, there_kept, there_before, no_table-no_bucket, Whole-retabled, Rely-retabled, TableRight-kept, placed_kept, entry_word-kept}
-use Rattle.rht_ghost.proofs.Moves.Slots.{slot_word-apart, held_by_two}
+use Rattle.rht_ghost.proofs.Moves.Slots.{table_word-apart, held_by_two}
 use Rattle.rht_ghost.proofs.Theory.Knowledge.{IsFlatMade, IsNestedMade}
 use Rattle.rht_ghost.proofs.Theory.Entries.{entry_in}
 
@@ -105,19 +105,19 @@ module _ (env : Env) (mix : ℕ → ℕ → ℕ → ℕ) where
         ap (λ i. slots (tables i).slot) e ∙ ap (λ (t : Table). slots t.slot) same_new ∙ live ∙ ap Live (sym e)
 
     pub attached_kept : TablesKept env mix G tables (G.attached + 1) slots page
-    attached_kept = same_kept env mix G tables (G.attached + 1) slots page table_same (omega arith)
+    attached_kept = same_kept env mix G tables (G.attached + 1) slots page whole.tables.current_in table_same (omega arith)
         (λ s has. put-other G.slot slot (Live G.attached) s (no_table s has))
         (put-all (λ t o. has_table o ≡ true → table_of_slot o < G.attached → o ≡ G.slot t) G.slot slot (Live G.attached)
         (λ has k. let less : G.attached < G.attached = k in absurd (omega (arith, less))) (λ t ne has k. refl))
         (λ p σ. put_in-all (λ q o. G.page q ≡ PageOf σ → o ≡ PageOf σ) (is_page_for shape) (PageOf G.attached) G.page
         (λ q there is. let z : PageHeld d ≡ PageOf σ = sym (mine q there) ∙ is in absurd (cc)) (λ q there is. is) p)
-        (λ σ from k. live-there env mix G' σ (new_live σ (omega (arith, from, k))))
+        (λ p σ k. page_before p σ k) (λ σ from k. live-there env mix G' σ (new_live σ (omega (arith, from, k))))
 
     -- ---- the tables
 
     -- tables have different slots
     slot_differs : (σ : ℕ) → IsThere G σ → (G.table σ).slot ≡ last → σ ≡ τ
-    slot_differs σ here = one_slot env mix G σ τ here there
+    slot_differs σ here = one_slot G σ τ here there
 
     other_word : (s : ℕ) (w : SlotWord) → s < 8 → IsSlotWord w → Slot s w ≢ Slot last FutureWord
         → M' (Slot s w) ≡ M (Slot s w)
@@ -148,13 +148,13 @@ module _ (env : Env) (mix : ℕ → ℕ → ℕ → ℕ) where
     old_table σ k is_there =
         let here = whole.tables.each σ is_there in
         TableRight-kept env mix M M' G tables (G.attached + 1) slots page whole attached_kept
-        (Slot last FutureWord) (future_of slot) write (slot_word-apart G last FutureWord) σ k is_there
+        (Slot last FutureWord) (future_of slot) write (table_word-apart G last FutureWord tt) σ k is_there
         (other_word (G.table σ).slot ShapeWord here.slot_in tt (λ e. cc))
         (other_word (G.table σ).slot SeedWord here.slot_in tt (λ e. cc))
         (other_word (G.table σ).slot SerialWord here.slot_in tt (λ e. cc))
         (old_future σ k is_there)
         (placed_kept env mix M M' G tables (G.attached + 1) slots page whole attached_kept (Slot last FutureWord)
-        (future_of slot) write (slot_word-apart G last FutureWord) σ is_there (table_same σ k) (λ p. page_before p σ k))
+        (future_of slot) write (table_word-apart G last FutureWord tt) σ is_there (table_same σ k) (λ p. page_before p σ k))
 
     -- the new one
     own_word : (w : SlotWord) → IsSlotWord w → M' (Slot slot w) ≡ M (Slot slot w)
@@ -260,12 +260,6 @@ module _ (env : Env) (mix : ℕ → ℕ → ℕ → ℕ) where
             ap (λ (t : Table). slots t.slot) (table_same σ before)
             ∙ attached_kept.slots (G.table σ).slot (ap has_table was) ∙ was
       ];
-      there = λ σ k. elim (cases_eq σ G.attached) [
-        | inl e ↦ live-there env mix G' σ (new_live σ e)
-        | inr ne ↦
-            let before : σ < G.attached = omega (arith, k, ne) in
-            there_kept env mix G tables (G.attached + 1) slots page attached_kept σ before (whole.tables.there σ before)
-      ];
       each = λ σ now. elim (cases_eq σ G.attached) [
         | inl e ↦ subst (TableRight env mix M' G') (sym e) new_table
         | inr ne ↦
@@ -288,6 +282,8 @@ module _ (env : Env) (mix : ℕ → ℕ → ℕ → ℕ) where
       retired = λ idle. retired_stay G G' None refl
           (λ s σ is k. live_kept env mix G tables (G.attached + 1) slots page attached_kept s σ is
           (omega (arith, k, whole.tables.current_in))) (whole.slots.retired idle);
+      back = λ s c. put-all (λ i o. o ≡ Back c → G.worker ≡ Some c) G.slot slot (Live G.attached) (λ is. absurd (cc))
+          (λ i ne is. whole.slots.back i c is) s;
     }
 
     -- a word that is no bucket's was none before, or was one of the caller's pages
@@ -353,7 +349,7 @@ module _ (env : Env) (mix : ℕ → ℕ → ℕ → ℕ) where
         let before = whole.pages.page_of q σ of in
         let now : table_at G' j ≡ σ = ap table_of_page (attached_kept.pages (j / 64) σ was) in
         entry_word-kept env mix M M' G tables (G.attached + 1) slots page whole attached_kept (Slot last FutureWord)
-        (future_of slot) write (slot_word-apart G last FutureWord) j σ l was (table_same σ before)
+        (future_of slot) write (table_word-apart G last FutureWord tt) j σ l was (table_same σ before)
         (ap (λ k. has_entries ((tables σ).part k)) (sym at) ∙ has) (λ e. cc)
         ∙ ap (λ i. entry_word ((tables i).entry j)) now) p
 
@@ -366,19 +362,20 @@ module _ (env : Env) (mix : ℕ → ℕ → ℕ → ℕ) where
 
     attached_whole : Whole env mix M' G'
     attached_whole = Whole-retabled env mix M M' G tables (G.attached + 1) slots page whole attached_kept
-        (Slot last FutureWord) (future_of slot) write (slot_word-apart G last FutureWord) tables_right slots_right
+        (Slot last FutureWord) (future_of slot) write (table_word-apart G last FutureWord tt) tables_right slots_right
         pages_right entries_right
 
     attached_others : Others env mix d M G M' G'
     attached_others c ne = Rely-retabled env mix M M' G tables (G.attached + 1) slots page whole attached_kept
-        (Slot last FutureWord) (future_of slot) write (slot_word-apart G last FutureWord) c (record {
+        (Slot last FutureWord) (future_of slot) write (table_word-apart G last FutureWord tt) c (record {
           slots = λ s is. put-other G.slot slot (Live G.attached) s
-              (λ e. held_by_two c d ne (G.slot slot) ready.made.has.mine (ap G.slot (sym e) ∙ is)) ∙ is;
+              (λ e. held_by_two c d ne (G.slot slot) (ap slot_holder ready.made.has.mine)
+              (ap (λ i. slot_holder (G.slot i)) (sym e) ∙ is));
           slot_words = λ s w has is. other_word s w has.within is (λ e.
               let same : s ≡ last = cc in
               let z : true ≡ false = sym there.has_slot ∙ ap (λ i. has_table (G.slot i)) (sym same)
               ∙ ap has_table has.mine in cc);
-          no_slot = put-all (λ s o. o ≡ SlotHeld c → G.slot s ≡ SlotHeld c) G.slot slot (Live G.attached)
+          no_slot = put-all (λ s o. slot_holder o ≡ Some c → slot_holder (G.slot s) ≡ Some c) G.slot slot (Live G.attached)
               (λ is. absurd (cc)) (λ s other is. is);
           pages = λ p. put_in-all (λ q o. G.page q ≡ PageHeld c → o ≡ PageHeld c) (is_page_for shape)
               (PageOf G.attached) G.page

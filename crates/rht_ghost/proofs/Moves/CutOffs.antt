@@ -60,7 +60,7 @@ module _ (env : Env) (mix : ℕ → ℕ → ℕ → ℕ) where
               (cut_value (place_at env mix j) b)
           go None last write = record {
             write = write;
-            no_table = record { current = λ e. cc; work = λ e. cc; slots = λ s w e. cc; pages = λ i e. cc };
+            no_table = record { current = λ e. cc; work = λ e. cc; sections = λ k e. cc; slots = λ s w e. cc; pages = λ i e. cc };
             no_map = λ k e. cc;
             no_count = λ e. cc;
             no_key = λ n e. cc;
@@ -76,7 +76,13 @@ module _ (env : Env) (mix : ℕ → ℕ → ℕ → ℕ) where
               let first = before_first p last in
               record {
                 write = write;
-                no_table = record { current = λ e. cc; work = λ e. cc; slots = λ s w e. cc; pages = λ i e. cc };
+                no_table = record {
+                  current = λ e. cc;
+                  work = λ e. cc;
+                  sections = λ k e. cc;
+                  slots = λ s w e. cc;
+                  pages = λ i e. cc;
+                };
                 no_map = λ k e. cc;
                 no_count = λ e. cc;
                 no_key = λ n e. cc;

@@ -61,7 +61,7 @@ module _ (env : Env) (mix : ℕ → ℕ → ℕ → ℕ) where
           (Node entry ChainLink) (head_of (place_at env mix i) (G.bucket i).plain)
       leave_store = record {
         write = write;
-        no_table = record { current = λ e. cc; work = λ e. cc; slots = λ s w e. cc; pages = λ i e. cc };
+        no_table = record { current = λ e. cc; work = λ e. cc; sections = λ k e. cc; slots = λ s w e. cc; pages = λ i e. cc };
         no_map = λ k e. cc;
         no_count = λ e. cc;
         no_key = λ n e. cc;
@@ -248,7 +248,7 @@ module _ (env : Env) (mix : ℕ → ℕ → ℕ → ℕ) where
     arrive_store : IsEntryStore env mix d i entry joined_bucket joined.node M M' G (PageWord i) (link_of entry)
     arrive_store = record {
       write = write;
-      no_table = record { current = λ e. cc; work = λ e. cc; slots = λ s w e. cc; pages = λ i e. cc };
+      no_table = record { current = λ e. cc; work = λ e. cc; sections = λ k e. cc; slots = λ s w e. cc; pages = λ i e. cc };
       no_map = λ k e. cc;
       no_count = λ e. cc;
       no_key = λ n e. cc;

@@ -7,7 +7,7 @@ use Rattle.rht_words.specs.declared.env.Env.{Env}
 use Rattle.rht_words.specs.Links.{entry_of, future_of}
 use Rattle.rht_words.specs.Places.{CurrentTable, WorkLock, Slot, SlotWord, ShapeWord, SeedWord, FutureWord, SerialWord, StateWord, PageMap, PageWord, IsSlotWord}
 use Rattle.rht_words.proofs.Memory.{Memory, IsWrite}
-use Rattle.rht_ghost.proofs.Theory.Ghosts.{Table, blank_bucket, put, put-same, put-other, put-all, PageOwner, PageFree, PageHeld, PageOf, Ghost, has_entries, lock_bit, has_table, index_at, is_entry, is_entry_of, entry_word, table_at, table_of_page}
+use Rattle.rht_ghost.proofs.Theory.Ghosts.{Table, blank_bucket, put, put-same, put-other, put-all, PageOwner, PageFree, PageHeld, PageOf, IsSince, Ghost, has_entries, lock_bit, has_table, index_at, is_entry, is_entry_of, entry_word, table_at, table_of_page}
 use Rattle.rht_ghost.proofs.Theory.Ways.{followed, IsSpareIn, StandsAs, entered_table}
 use Rattle.rht_ghost.proofs.Theory.Wholes.{retired_stay, IsNoBucket, IsNested, IsBehind, EntriesRight, TablesRight, SlotsRight, PagesRight, PlacedRight, future_in, Whole, IsThere, there-attached}
 use Rattle.rht_ghost.proofs.Theory.Entries.{IsEntryIn, entry_in, entry_nested}
@@ -118,7 +118,18 @@ module _ (env : Env) (mix : ℕ → ℕ → ℕ → ℕ) where
       back = λ s has l. refl;
       pages = page_stays;
       fresh = none_fresh env mix G _;
+      over = λ σ l over.
+          let other : σ ≢ τ = λ e. over d (subst (IsSince (G.from d)) (sym e) ready.since) in
+          record {
+            table = other_table σ other;
+            pages = λ q. (page_owned q σ other, page_stays q σ);
+          };
     }
+      where
+        -- no other table gets the page
+        page_owned : (q σ : ℕ) → σ ≢ τ → page q ≡ PageOf σ → G.page q ≡ PageOf σ
+        page_owned q σ ne = put-all (λ k o. o ≡ PageOf σ → G.page k ≡ PageOf σ) G.page p (PageOf τ)
+            (λ of. absurd (ne (let same : τ ≡ σ = cc in sym same))) (λ k other of. of) q
 
     -- what is behind an entry is so still
     behind_stays : (i q : ℕ) → G.page (i / 64) ≡ PageOf τ → IsBehind env mix old G.page τ (old.part (i / 64)) (i % 64) q
@@ -187,6 +198,7 @@ module _ (env : Env) (mix : ℕ → ℕ → ℕ → ℕ) where
       buckets = λ i plain e. let same : i ≡ j = cc in both_ways (is_entry G i) plain (ap (is_entry G) same ∙ ready.entry);
       map = λ i e. cc;
       count = λ e. cc;
+      sections = record { own = λ c e. cc; kept = λ s c e. cc };
     }
 
     slot_word : (s : ℕ) (w : SlotWord) → s < 8 → IsSlotWord w → M' (Slot s w) ≡ M (Slot s w)
@@ -216,7 +228,6 @@ module _ (env : Env) (mix : ℕ → ℕ → ℕ → ℕ) where
       current_in = whole.tables.current_in;
       current_is = write.others CurrentTable tt (λ e. cc) ∙ whole.tables.current_is ∙ sym (slot_same G.current);
       force = λ σ from l. ap G.slot (slot_same σ) ∙ whole.tables.force σ from l;
-      there = λ σ l. there_kept env mix G tables G.attached G.slot page entered_kept σ l (whole.tables.there σ l);
       each = λ σ now.
           let s = (G.table σ).slot in
           let there : IsThere G σ = record {
@@ -239,6 +250,7 @@ module _ (env : Env) (mix : ℕ → ℕ → ℕ → ℕ) where
       states = λ s l. slot_word s StateWord l tt ∙ whole.slots.states s l;
       worker_is = write.others WorkLock tt (λ e. cc) ∙ whole.slots.worker_is;
       retired = λ idle. retired_stay G G' None refl (λ s σ is l. is) (whole.slots.retired idle);
+      back = whole.slots.back;
     }
 
     -- a word that is no bucket's was none before, or is in the page
@@ -344,7 +356,7 @@ module _ (env : Env) (mix : ℕ → ℕ → ℕ → ℕ) where
     entered_others : Others env mix d M G M' G'
     entered_others c ne = Rely-retabled env mix M M' G tables G.attached G.slot page whole entered_kept (PageWord j)
         (entry_of p) write words_apart c (record {
-          slots = λ s is. is;
+          slots = λ s is. refl;
           slot_words = λ s w has is. slot_word s w has.within is;
           no_slot = λ s is. is;
           pages = put-all (λ q o. G.page q ≡ PageHeld c → o ≡ PageHeld c) G.page p (PageOf τ)

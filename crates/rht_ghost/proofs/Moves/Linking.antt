@@ -6,17 +6,18 @@ use Rattle.std.proofs.lemmas.Bool.Decides.{nat_tests}
 use Rattle.rht_words.specs.declared.env.Env.{Env}
 use Rattle.rht_words.specs.Links.{link_of, head_of}
 use Rattle.rht_words.specs.Chains.{IsSegment}
-use Rattle.rht_words.specs.Places.{PortCount, Slot, NodeMap, Node, NodeWord, ChainLink, KeyWord, ListLink, PageWord}
+use Rattle.rht_words.specs.Places.{PortCount, Section, Slot, NodeMap, Node, NodeWord, ChainLink, KeyWord, ListLink, PageWord}
 use Rattle.rht_words.proofs.Memory.{Memory, IsWrite}
 use Rattle.rht_words.specs.Members.{In, NotIn}
 use Rattle.rht_words.proofs.Members.{not_in_from, count_below-more}
 use Rattle.rht_words.proofs.ChainLemmas.{IsSegment-members}
-use Rattle.rht_ghost.proofs.Theory.Ghosts.{put, put-same, put-other, put-all, Free, NodeHeld, First, Leaving, Behind, Ghost, is_first, is_used, is_taken_by, IsUsed, seat_of, seat_in, seat, seat-used, listed-used, held_not_used, held_by_one, none-some, some-same, table_at, is_entry, table_of_page}
+use Rattle.rht_ghost.proofs.Theory.Ghosts.{put, put-same, put-other, put-all, Free, NodeHeld, First, Leaving, Behind, Ghost, IsSince, is_first, is_used, is_taken_by, IsUsed, seat_of, seat_in, seat, seat-used, listed-used, held_not_used, held_by_one, none-some, some-same, table_at, is_entry, table_of_page}
 use Rattle.rht_ghost.proofs.Theory.Wholes.{chain_of, list_of, key_of, place_at, home, stop, IsNoBucket, BucketRight, ArmedRight, IsHomeOf, IsFirstAt, IsBehindIn, IsBoundTo, Owned, ArenaRight, IsBuilt, Whole, none_out, out-seated, firsts, raisers, force-there}
 use Rattle.rht_ghost.proofs.Theory.Passed.{home-within, held-bucket, PassesStay, IsArmedFor, held-no_entry}
 use Rattle.rht_ghost.proofs.Theory.Knowledge.{ArmedFor, IsEmptied}
 use Rattle.rht_ghost.proofs.Theory.Reliance.{bound_used}
 use Rattle.rht_ghost.proofs.Theory.Readiness.{linked_bucket, linked, IsReady}
+use Rattle.rht_ghost.proofs.Theory.SectionFrames.{sections_stay, SectionsRight-write}
 use Rattle.rht_ghost.proofs.Theory.Frames.{Made, UsedStay, used_stay, chains_stay, seat_stays, first_stays, SameTables, same_tables, tables_stay, holdings_stay, entries_stay, work_stays, stale_write, reowned_owners}
 use Rattle.rht_ghost.proofs.Theory.WholeFrames.{TablesRight-write, SlotsRight-write, PagesRight-write, IsHomeOf-same, BucketRight-frame, MovingStays, entry_words, MovingRight-frame, Leaving-frame, EntriesRight-write, locked-no_entry}
 
@@ -331,6 +332,10 @@ module _ (env : Env) (mix : ℕ → ℕ → ℕ → ℕ) where
             TablesRight-write env mix M M' G G' (PageWord here) (link_of n) write
             (record { current = λ e. cc; slots = λ s w h e. cc }) same whole.tables;
         slots = SlotsRight-write env mix M M' G G' (PageWord here) (link_of n) write (λ e. cc) (λ s e. cc) same whole.slots;
+        sections = SectionsRight-write env mix M M' G G' (PageWord here) (link_of n) write
+            (record { own = λ k e. cc; kept = λ s k e. cc }) whole.sections refl (λ s τ is. is)
+            (put-all (λ i b. (c : ℕ) → b.holder ≡ Some c → IsSince (G.from c) (table_at G i)) G.bucket here
+            (linked_bucket (G.bucket here) n) (λ c e. absurd (cc)) (λ i ne. whole.sections.locked i));
         pages = PagesRight-write env mix M M' G G' (PageWord here) (link_of n) write (λ i e. cc) same
             (λ j blank. put-other G.bucket here (linked_bucket (G.bucket here) n) j
             (λ e. held-bucket env mix M G whole here d ready.holder
@@ -380,7 +385,9 @@ module _ (env : Env) (mix : ℕ → ℕ → ℕ → ℕ) where
             (λ m used. put-other G.node n (First here) m (used_differs m (listed-used (G.node m) used)))
             (put-all (λ i b. IsEmptied env mix (G.bucket i) → IsEmptied env mix b) G.bucket here
             (linked_bucket (G.bucket here) n)
-            (λ empty. absurd (none-some empty.armed ready.armed.armed)) (λ i apart empty. empty)));
+            (λ empty. absurd (none-some empty.armed ready.armed.armed)) (λ i apart empty. empty)))
+            (λ s w l is. write.others (Slot s w) (l, is) (λ e. cc))
+            (sections_stay env mix M M' G G' whole refl (λ k l. write.others (Section k) l (λ e. cc)));
         no_work = λ works. works;
         no_node =
             λ m. put-all (λ k o. o ≡ NodeHeld c → G.node k ≡ NodeHeld c) G.node n (First here) (λ e. absurd (cc))

@@ -125,7 +125,7 @@ module _ (env : Env) (mix : ℕ → ℕ → ℕ → ℕ) (d port j m q p : ℕ) 
     cut_store : IsStoreFor env mix d cutting M M' G (Node p ListLink) link
     cut_store = record {
       write = write;
-      no_table = record { current = λ e. cc; work = λ e. cc; slots = λ s w e. cc; pages = λ i e. cc };
+      no_table = record { current = λ e. cc; work = λ e. cc; sections = λ k e. cc; slots = λ s w e. cc; pages = λ i e. cc };
       no_map = λ i e. cc;
       no_count = λ e. cc;
       no_key = λ n e. cc;

@@ -13,11 +13,18 @@ use Rattle.rht_ghost.proofs.Theory.Wholes.{IsNoBucket, SlotsRight, PagesRight, W
 use Rattle.rht_ghost.proofs.Theory.Readiness.{ArePagesOf}
 use Rattle.rht_ghost.proofs.Theory.Frames.{Others, Made, stale_write, same_owners}
 use Rattle.rht_ghost.proofs.Theory.WholeFrames.{no_bucket}
-use Rattle.rht_ghost.proofs.Theory.TableFrames.{TablesKept, same_kept, none_fresh, IsNoBucketWord, no_table-no_bucket, Whole-retabled, Rely-retabled, TablesRight-kept, EntriesRight-kept}
+use Rattle.rht_ghost.proofs.Theory.TableFrames.{TablesKept, same_kept, none_fresh, IsNoBucketWord, no_table-no_bucket, Whole-retabled, Rely-retabled, EntriesRight-kept}
+use Rattle.rht_ghost.proofs.Theory.TablesUnchanged.{TablesRight-kept}
 
 -- no word of the map of pages is a bucket's or a node's
 pub map_word-apart : (G : Ghost) (index : ℕ) → IsNoBucketWord G (PageMap index)
-map_word-apart G index = record { nodes = λ n u e. cc; buckets = λ j none e. cc; map = λ i e. cc; count = λ e. cc }
+map_word-apart G index = record {
+  nodes = λ n u e. cc;
+  buckets = λ j none e. cc;
+  map = λ i e. cc;
+  count = λ e. cc;
+  sections = record { own = λ c e. cc; kept = λ s c e. cc };
+}
 
 -- a page that has one of the bits has it in this word
 pub has_bit-is : (index bits p : ℕ) → has_bit index bits p ≡ true → (p / 64 ≡ index) × (bit_at bits (p % 64) ≡ 1)
@@ -44,12 +51,15 @@ module _ (env : Env) (mix : ℕ → ℕ → ℕ → ℕ) where
 
   -- tables keep theirs
   pub pages_kept : (index bits : ℕ) (before after : PageOwner) (G : Ghost) → ArePagesOf env mix G index bits before
-      → NoTable before → TablesKept env mix G G.table G.attached G.slot (put_in (has_bit index bits) after G.page)
-  pages_kept index bits before after G was none =
-      same_kept env mix G G.table G.attached G.slot (put_in (has_bit index bits) after G.page) (λ τ l. refl) (omega arith)
+      → NoTable before → NoTable after → G.current < G.attached
+      → TablesKept env mix G G.table G.attached G.slot (put_in (has_bit index bits) after G.page)
+  pages_kept index bits before after G was none none_after within =
+      same_kept env mix G G.table G.attached G.slot (put_in (has_bit index bits) after G.page) within (λ τ l. refl) (omega arith)
       (λ s has. refl) (λ s has l. refl)
       (λ p τ. put_in-all (λ q o. G.page q ≡ PageOf τ → o ≡ PageOf τ) (has_bit index bits) after G.page
       (λ q there is. absurd (none τ (sym (was.owned q there) ∙ is))) (λ q there is. is) p)
+      (λ p τ l. put_in-all (λ q o. o ≡ PageOf τ → G.page q ≡ PageOf τ) (has_bit index bits) after G.page
+      (λ q there is. absurd (none_after τ is)) (λ q there is. is) p)
       (none_fresh env mix G _)
 
   module _ (index bits v : ℕ) (before after : PageOwner) (M M' : Memory) (G : Ghost) (whole : Whole env mix M G)
@@ -64,7 +74,7 @@ module _ (env : Env) (mix : ℕ → ℕ → ℕ → ℕ) where
     G' = with_pages G index bits after
 
     kept : TablesKept env mix G G.table G.attached G.slot page
-    kept = pages_kept index bits before after G was none_before
+    kept = pages_kept index bits before after G was none_before none_after whole.tables.current_in
 
     bits_right : (p : ℕ) → p < env.geometry.pages
         → (bit_at (M' (PageMap (p / 64))) (p % 64) ≡ 1) ↔ (page p ≡ PageFree)
@@ -113,6 +123,7 @@ module _ (env : Env) (mix : ℕ → ℕ → ℕ → ℕ) where
       states = λ s l. write.others (Slot s StateWord) (l, tt) (λ e. cc) ∙ whole.slots.states s l;
       worker_is = write.others WorkLock tt (λ e. cc) ∙ whole.slots.worker_is;
       retired = whole.slots.retired;
+      back = whole.slots.back;
     }
 
     repaged : Whole env mix M' G'
@@ -129,7 +140,7 @@ module _ (env : Env) (mix : ℕ → ℕ → ℕ → ℕ) where
     repaged_others d not_before not_after c ne =
         Rely-retabled env mix M M' G G.table G.attached G.slot page whole kept (PageMap index) v write
         (map_word-apart G index) c (record {
-          slots = λ s is. is;
+          slots = λ s is. refl;
           slot_words = λ s w has is. write.others (Slot s w) (has.within, is) (λ e. cc);
           no_slot = λ s is. is;
           pages = λ p. put_in-all (λ q o. G.page q ≡ PageHeld c → o ≡ PageHeld c) (has_bit index bits) after G.page

@@ -1,18 +1,19 @@
--- The moves by which a table is left behind: the next one becomes the current table, and the one before is retired.
-use Rattle.std.proofs.Common.{◌≡◌, ◌≢◌, ℕ, ◌+◌, ◌/◌, ◌<◌, ◌≤◌, Option, Some, true, refl, sym, ◌∙◌, ap, subst, inl, inr, arith}
+-- The moves by which a table is left behind: the next one becomes the current table, and that the one before is being retired is
+-- said in its slot.
+use Rattle.std.proofs.Common.{◌≡◌, ◌≢◌, ℕ, ◌+◌, ◌/◌, ◌<◌, ◌≤◌, Option, Some, refl, sym, ◌∙◌, ap, subst, inl, inr, arith}
 use Rattle.std.proofs.lemmas.Bool.{cases_eq}
 use Rattle.rht_words.specs.declared.env.Env.{Env}
 use Rattle.rht_words.specs.Shapes.{unpacked, size_of}
 use Rattle.rht_words.specs.Places.{CurrentTable, WorkLock, Slot, StateWord}
 use Rattle.rht_words.specs.Members.{In}
 use Rattle.rht_words.proofs.Memory.{Memory, IsWrite}
-use Rattle.rht_ghost.proofs.Theory.Ghosts.{put-other, put-all, Ghost, First, SlotHeld, Live, Retired, PageOwner, PageFree, PageHeld, PageOf, state_word, has_table, index_at, table_of_slot, table_of_page, table_at, none-some}
+use Rattle.rht_ghost.proofs.Theory.Ghosts.{put-all, Ghost, First, SlotHeld, SlotOwner, Retiring, Retired, Back, PageOwner, PageFree, PageHeld, PageOf, state_word, has_table, index_at, table_of_page, table_at, unretired, none-some}
 use Rattle.rht_ghost.proofs.Theory.Wholes.{key_of, home, hash_in, IsNoBucket, Whole}
 use Rattle.rht_ghost.proofs.Theory.Passed.{hash-below, held-bucket}
 use Rattle.rht_ghost.proofs.Theory.Knowledge.{IsEmptied}
 use Rattle.rht_ghost.proofs.Theory.Frames.{Made}
-use Rattle.rht_ghost.proofs.Theory.Departures.{published, retired, CanPublish, CanRetire}
-use Rattle.rht_ghost.proofs.Moves.Standing.{IsStandingWord, SlotsStand, slots_stand, restate}
+use Rattle.rht_ghost.proofs.Theory.Departures.{published, retiring, CanPublish, CanRetire}
+use Rattle.rht_ghost.proofs.Moves.Standing.{IsStandingWord, slots_stand, restanding, restated_sections, restate}
 use Rattle.rht_ghost.proofs.Theory.Entries.{bucket_of_word}
 use Rattle.rht_ghost.proofs.Theory.Ways.{number_in}
 
@@ -106,6 +107,9 @@ module _ (env : Env) (mix : ℕ → ℕ → ℕ → ℕ) where
           states = λ s l. write.others (Slot s StateWord) (l, tt) (λ e. cc) ∙ whole.slots.states s l;
           worker_is = write.others WorkLock tt (λ e. cc) ∙ whole.slots.worker_is;
           retired = λ idle. absurd (none-some idle can.works);
+          back = whole.slots.back;
+          sections = restated_sections env mix d M M' G (G.current + 1) G.slot G.worker CurrentTable v whole write
+              (record { own = λ c e. cc; kept = λ s c e. cc }) (λ s τ is. is);
           no_other = others_idle;
           none_gets_it = others_idle;
           seats = later_seat;
@@ -117,7 +121,7 @@ module _ (env : Env) (mix : ℕ → ℕ → ℕ → ℕ) where
         others_idle c ne other =
             let e : ◌≡◌ {A = Option ℕ} (Some d) (Some c) = sym can.works ∙ other in ne (cc)
 
-  -- ---- a table that was left behind is retired
+  -- ---- a table that was left behind is being retired
 
   module _ (d s : ℕ) (M : Memory) (G : Ghost) (whole : Whole env mix M G) (can : CanRetire env mix d s G) where
     not_mine : (c : ℕ) → G.slot s ≡ SlotHeld c → ⊥
@@ -137,43 +141,32 @@ module _ (env : Env) (mix : ℕ → ℕ → ℕ → ℕ) where
       no_held = λ i c w held e. let same : i ≡ s = cc in not_mine c (ap G.slot (sym same) ∙ held);
     }
 
-    retired_slots : SlotsStand G G.current (retired G s).slot
-    retired_slots =
-        let owner = Retired (index_at G s) in
-        record {
-          has = put-all (λ i o. has_table o ≡ has_table (G.slot i)) G.slot s owner (sym can.table)
-              (λ i ne. refl);
-          index = put-all (λ i o. has_table (G.slot i) ≡ true → table_of_slot o ≡ index_at G i) G.slot s owner
-              (λ has. refl) (λ i ne has. refl);
-          live = λ τ l from.
-              let live = whole.tables.force τ from l in
-              put-other G.slot s owner (G.table τ).slot
-              (λ e. let index : index_at G s ≡ τ = ap (index_at G) (sym e) ∙ ap table_of_slot live in
-              omega (arith, index, from, can.left_behind)) ∙ live;
-          was_live = λ i τ. put-all (λ k o. o ≡ Live τ → G.slot k ≡ Live τ) G.slot s owner (λ is. absurd (cc))
-              (λ k ne is. is) i;
-          held = λ i c. put-all (λ k o. G.slot k ≡ SlotHeld c → o ≡ SlotHeld c) G.slot s owner
-              (λ is. absurd (not_mine c is)) (λ k ne is. is) i;
-          not_held = λ i c. put-all (λ k o. o ≡ SlotHeld c → G.slot k ≡ SlotHeld c) G.slot s owner
-              (λ is. absurd (cc)) (λ k ne is. is) i;
-        }
+    abbrev owner : SlotOwner
+    owner = Retiring (index_at G s)
 
     -- the store of 2 in the state word of its slot
     pub retire : (M' : Memory) → IsWrite env.geometry M M' (Slot s StateWord) 2
-        → Made env mix d M G M' (retired G s)
+        → Made env mix d M G M' (retiring G s)
     retire M' write =
-        restate env mix d M M' G G.current (retired G s).slot G.worker (Slot s StateWord) 2 whole (record {
+        restate env mix d M M' G G.current (retiring G s).slot G.worker (Slot s StateWord) 2 whole (record {
           write = write;
           word = state_word_apart;
           current_in = whole.tables.current_in;
           later = omega arith;
           current_is = write.others CurrentTable tt (λ e. cc) ∙ whole.tables.current_is;
-          slots = retired_slots;
-          states = put-all (λ i o. i < 8 → M' (Slot i StateWord) ≡ state_word o) G.slot s (Retired (index_at G s))
+          slots = restanding env mix M G whole s owner can.table (omega (arith, can.left_behind)) refl refl
+              (λ τ is. ap unretired can.live ∙ is);
+          states = put-all (λ i o. i < 8 → M' (Slot i StateWord) ≡ state_word o) G.slot s owner
               (λ l. write.same)
               (λ i ne l. write.others (Slot i StateWord) (l, tt) (λ e. ne (cc)) ∙ whole.slots.states i l);
           worker_is = write.others WorkLock tt (λ e. cc) ∙ whole.slots.worker_is;
           retired = λ idle. absurd (none-some idle can.works);
+          back = λ i c. put-all (λ k o. o ≡ Back c → G.worker ≡ Some c) G.slot s owner (λ is. absurd (cc))
+              (λ k ne is. whole.slots.back k c is) i;
+          sections = restated_sections env mix d M M' G G.current (retiring G s).slot G.worker (Slot s StateWord) 2 whole write
+              (record { own = λ c e. cc; kept = λ i c e. cc })
+              (λ i τ. put-all (λ k o. o ≡ Retired τ → G.slot k ≡ Retired τ) G.slot s owner (λ is. absurd (cc))
+              (λ k ne is. is) i);
           no_other = others_idle;
           none_gets_it = others_idle;
           seats = λ n j first. (whole.owned.first_at n j first).at_home.current;

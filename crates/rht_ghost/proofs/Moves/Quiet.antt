@@ -3,17 +3,18 @@
 use Rattle.std.proofs.Common.{◌≡◌, ◌≢◌, ◌⊎◌, ℕ, ◌+◌, ◌-◌, ◌*◌, ◌/◌, ◌%◌, ◌^◌, ◌<◌, Option, Some, None, true, false, refl, sym, ◌∙◌, ap, subst, inl, inr, arith}
 use Rattle.std.proofs.lemmas.Bool.{both_ways}
 use Rattle.rht_words.specs.declared.env.Env.{Env}
-use Rattle.rht_words.specs.Places.{Address, PortCount, Slot, NodeMap, Node, NodeWord, ChainLink, KeyWord, OwnerWord, PageWord}
+use Rattle.rht_words.specs.Places.{Address, PortCount, Section, Slot, NodeMap, Node, NodeWord, ChainLink, KeyWord, OwnerWord, PageWord}
 use Rattle.rht_words.proofs.Memory.{Memory, IsWrite}
 use Rattle.rht_words.proofs.Members.{count_below-more, count_below-most}
-use Rattle.rht_ghost.proofs.Theory.Ghosts.{put, put-same, put-other, put-all, Ghost, lock_bit, is_first, seat, table_at, held_by, with_holder, armed_by, with_armed, with_raised, is_entry, none-some}
+use Rattle.rht_ghost.proofs.Theory.Ghosts.{put, put-same, put-other, put-all, Ghost, IsSince, lock_bit, is_first, seat, table_at, held_by, with_holder, armed_by, with_armed, with_raised, is_entry, none-some}
 use Rattle.rht_ghost.proofs.Theory.Entries.{bucket-no_entry}
 use Rattle.rht_ghost.proofs.Theory.Wholes.{LockedRight, BucketRight, ArmedRight, IsNoBucket, MovesNone, Whole, firsts, raisers}
 use Rattle.rht_ghost.proofs.Theory.Passed.{held-bucket, PassesStay, WasOut}
 use Rattle.rht_ghost.proofs.Theory.Readiness.{IsArming}
 use Rattle.rht_ghost.proofs.Theory.Knowledge.{IsEmptied}
 use Rattle.rht_ghost.proofs.Theory.Reliance.{Rely}
-use Rattle.rht_ghost.proofs.Theory.Frames.{Others, Made, IsNoTableWord, unwritten_words, used_stay, chains_stay, slots_stay, holdings_stay, entries_stay, work_stays, tables_stay, same_tables, Rely-same, stale_write, stale_none, same_owners}
+use Rattle.rht_ghost.proofs.Theory.SectionFrames.{sections_stay, SectionsRight-frame}
+use Rattle.rht_ghost.proofs.Theory.Frames.{Others, Made, IsNoTableWord, unwritten_words, used_stay, chains_stay, slots_stay, holdings_stay, entries_stay, untouched, work_stays, tables_stay, same_tables, Rely-same, stale_write, stale_none, same_owners}
 use Rattle.rht_ghost.proofs.Theory.WholeFrames.{TablesRight-same, no_bucket, MovingStays, entry_words, MovingRight-frame, Owned-frame, SameChains, same_chains, chains_passes, Whole-frame, locks_stay, arena_stays}
 
 module _ (env : Env) (mix : ℕ → ℕ → ℕ → ℕ) where
@@ -43,17 +44,18 @@ module _ (env : Env) (mix : ℕ → ℕ → ℕ → ℕ) where
         bound = λ port. refl;
       }
 
-  -- a store of the bucket's word that changes its lock alone
+  -- a store of the bucket's word that changes its lock alone; the section of who has it then comes to the bucket's table
   relocked : (j v : ℕ) (holder : Option ℕ) (M M' : Memory) (G : Ghost) → Whole env mix M G
       → j < 64 * env.geometry.pages → IsUnworked G j → (IsNoBucket env mix G (G.page (j / 64)) j → ⊥)
+      → ((c : ℕ) → holder ≡ Some c → IsSince (G.from c) (table_at G j))
       → v ≡ (G.bucket j).plain + lock_bit holder → IsWrite env.geometry M M' (PageWord j) v
       → Whole env mix M' (with_holder G j holder)
-  relocked j v holder M M' G whole l unworked bucket is write =
+  relocked j v holder M M' G whole l unworked bucket since is write =
       let plain = bucket-no_entry env mix G j bucket in
       let old = (whole.buckets j l plain).locked in
       let held = held_by (G.bucket j) holder in
       Whole-frame env mix M M' G (with_holder G j holder) (PageWord j) v whole write
-      (record { current = λ e. cc; work = λ e. cc; slots = λ s u e. cc; pages = λ i e. cc })
+      (record { current = λ e. cc; work = λ e. cc; sections = λ k e. cc; slots = λ s u e. cc; pages = λ i e. cc })
       (λ i entry e. let same : i ≡ j = cc in both_ways (is_entry G j) plain (ap (is_entry G) (sym same) ∙ entry))
       (held_chains G j holder unworked)
       (used_stay env mix M M' G (PageWord j) v whole write (λ n w e. cc))
@@ -66,7 +68,9 @@ module _ (env : Env) (mix : ℕ → ℕ → ℕ → ℕ) where
         even = right.even;
       }))
       (arena_stays env mix M M' G (PageWord j) v whole write (with_holder G j holder) refl (λ i e. cc))
-      (write.others PortCount tt (λ e. cc) ∙ whole.counted)
+      (write.others PortCount tt (λ e. cc) ∙ whole.counted) refl
+      (put-all (λ i b. (c : ℕ) → b.holder ≡ Some c → IsSince (G.from c) (table_at G i)) G.bucket j held since
+      (λ i ne. whole.sections.locked i))
 
   -- so it is of a bucket that a caller has which has no entry on its way
   pub unworked_by : (G : Ghost) (d j : ℕ) → MovesNone env mix G d → (G.bucket j).holder ≡ Some d → IsUnworked G j
@@ -100,7 +104,9 @@ module _ (env : Env) (mix : ℕ → ℕ → ℕ → ℕ) where
         work = work_stays env mix c M M' G G' same.tables (entries_stay env mix M M' G G' whole stay
             (λ n used. refl)
             (put-all (λ i b. IsEmptied env mix (G.bucket i) → IsEmptied env mix b) G.bucket j held
-            (λ is. record { nodes = is.nodes; out = is.out; armed = refl }) (λ i apart is. is)));
+            (λ is. record { nodes = is.nodes; out = is.out; armed = refl }) (λ i apart is. is)))
+            (λ s w l is. write.others (Slot s w) (l, is) (λ e. cc))
+            (sections_stay env mix M M' G G' whole refl (λ k l. write.others (Section k) l (λ e. cc)));
         no_work = λ is. is;
         no_node = λ n h. h;
         no_lock = λ i. put-all (λ i b. b.holder ≡ Some c → (G.bucket i).holder ≡ Some c) G.bucket j held
@@ -113,19 +119,21 @@ module _ (env : Env) (mix : ℕ → ℕ → ℕ → ℕ) where
   nobody_holds None plain word is even plain_even = (refl, omega arith)
   nobody_holds (Some c) plain word is even plain_even = absurd (omega arith)
 
-  -- the exchange that takes the lock of a bucket: the word was even
+  -- the exchange that takes the lock of a bucket, to whose table the caller's section comes: the word was even
   pub take_lock : (d j v : ℕ) (M M' : Memory) (G : Ghost) → Whole env mix M G
       → j < 64 * env.geometry.pages → (IsNoBucket env mix G (G.page (j / 64)) j → ⊥)
-      → M (PageWord j) ≡ v → v % 2 ≡ 0
+      → IsSince (G.from d) (table_at G j) → M (PageWord j) ≡ v → v % 2 ≡ 0
       → IsWrite env.geometry M M' (PageWord j) (v + 1)
       → Made env mix d M G M' (with_holder G j (Some d)) × ((G.bucket j).plain ≡ v) × ((G.bucket j).holder ≡ None)
-  take_lock d j v M M' G whole l bucket found even write =
+  take_lock d j v M M' G whole l bucket since found even write =
       let right = (whole.buckets j l (bucket-no_entry env mix G j bucket)).locked in
       let free = nobody_holds (G.bucket j).holder (G.bucket j).plain v (sym found
       ∙ right.word_is) even right.even in
       let unworked : IsUnworked G j = λ c k entry holds is by. none-some free.0 holds in (
         record {
-          whole = relocked j (v + 1) (Some d) M M' G whole l unworked bucket (ap (λ p. p + 1) (sym free.1)) write;
+          whole = relocked j (v + 1) (Some d) M M' G whole l unworked bucket
+              (λ c is. let same : d ≡ c = cc in subst (λ k. IsSince (G.from k) (table_at G j)) same since)
+              (ap (λ p. p + 1) (sym free.1)) write;
           others = relocked_others d j (v + 1) (Some d) M M' G whole unworked
               (λ c ne h. none-some free.0 h) (λ c ne h. ne (cc)) write;
           stale = stale_write env mix M M' G (with_holder G j (Some d)) (PageWord j) (v + 1) write
@@ -156,7 +164,7 @@ module _ (env : Env) (mix : ℕ → ℕ → ℕ → ℕ) where
   drop_lock d j v M M' G whole l none holds plain write =
       let unworked : IsUnworked G j = unworked_by G d j none holds in
       record {
-        whole = relocked j v None M M' G whole l unworked (held-bucket env mix M G whole j d holds)
+        whole = relocked j v None M M' G whole l unworked (held-bucket env mix M G whole j d holds) (λ c is. absurd (cc))
             (omega (arith, plain)) write;
         others = relocked_others d j v None M M' G whole unworked
             (λ c ne h. let e : ◌≡◌ {A = Option ℕ} (Some d) (Some c) = sym holds ∙ h in ne (cc))
@@ -222,7 +230,11 @@ module _ (env : Env) (mix : ℕ → ℕ → ℕ → ℕ) where
             states = whole.slots.states;
             worker_is = whole.slots.worker_is;
             retired = whole.slots.retired;
+            back = whole.slots.back;
           };
+          sections = SectionsRight-frame env mix M M G G' whole.sections refl (λ k l. refl) (λ s k l m. refl) (λ s τ is. is)
+              (put-all (λ i b. (c : ℕ) → b.holder ≡ Some c → IsSince (G.from c) (table_at G i)) G.bucket j armed
+              (whole.sections.locked j) (λ i ne. whole.sections.locked i));
           pages = record {
             bits = whole.pages.bits;
             page_of = whole.pages.page_of;
@@ -271,7 +283,10 @@ module _ (env : Env) (mix : ℕ → ℕ → ℕ → ℕ) where
           work = λ works. record {
             worker = works;
             current = refl;
-            left = λ s τ live l. live;
+            left = λ s has l. refl;
+            kept = λ s k l m. refl;
+            sections = sections_stay env mix M M G G' whole refl (λ k l. refl);
+            over = λ τ l over. untouched env mix τ G G' same;
             emptied = λ more i. put-all (λ k b. table_at G k ≡ G.current → IsEmptied env mix (G.bucket k)
                 → IsEmptied env mix b) G.bucket j armed
                 (λ table empty. absurd (omega (arith, is.last, table, more))) (λ k apart table empty. empty) i;
@@ -304,11 +319,12 @@ module _ (env : Env) (mix : ℕ → ℕ → ℕ → ℕ) where
       let stay = used_stay env mix M M' G PortCount v whole write (λ n w e. cc) in
       record {
         whole = Whole-frame env mix M M' G (with_raised G d true) PortCount v whole write
-            (record { current = λ e. cc; work = λ e. cc; slots = λ s u e. cc; pages = λ i e. cc }) (λ j entry e. cc)
+            (record { current = λ e. cc; work = λ e. cc; sections = λ k e. cc; slots = λ s u e. cc; pages = λ i e. cc })
+            (λ j entry e. cc)
             (same_chains env mix G (put G.raised d true)) stay (λ j blank. refl)
             (locks_stay env mix M M' G PortCount v whole write (λ j e. cc))
             (arena_stays env mix M M' G PortCount v whole write (with_raised G d true) refl (λ i e. cc))
-            (write.same ∙ next ∙ ap (λ x. firsts env mix G + x) (sym more));
+            (write.same ∙ next ∙ ap (λ x. firsts env mix G + x) (sym more)) refl whole.sections.locked;
         stale = stale_write env mix M M' G (with_raised G d true) PortCount v write
             (same_owners env mix G (with_raised G d true) refl) (λ n u f e. cc) (λ n u f e. cc);
         others = λ c ne. Rely-same env mix c M M' G (with_raised G d true) whole
@@ -316,6 +332,7 @@ module _ (env : Env) (mix : ℕ → ℕ → ℕ → ℕ) where
             (put-other G.raised d true c ne) stay (chains_stay env mix c M M' G PortCount v whole write
             (λ n used e. cc))
             (λ s w l is. write.others (Slot s w) (l, is) (λ e. cc))
+            (sections_stay env mix M M' G (with_raised G d true) whole refl (λ k m. write.others (Section k) m (λ e. cc)))
             (λ n w has. write.others (Node n w) has.among (λ e. cc));
       }
 
@@ -338,11 +355,12 @@ module _ (env : Env) (mix : ℕ → ℕ → ℕ → ℕ) where
       let stay = used_stay env mix M M' G PortCount v whole write (λ n w e. cc) in
       record {
         whole = Whole-frame env mix M M' G (with_raised G d false) PortCount v whole write
-            (record { current = λ e. cc; work = λ e. cc; slots = λ s u e. cc; pages = λ i e. cc }) (λ j entry e. cc)
+            (record { current = λ e. cc; work = λ e. cc; sections = λ k e. cc; slots = λ s u e. cc; pages = λ i e. cc })
+            (λ j entry e. cc)
             (same_chains env mix G (put G.raised d false)) stay (λ j blank. refl)
             (locks_stay env mix M M' G PortCount v whole write (λ j e. cc))
             (arena_stays env mix M M' G PortCount v whole write (with_raised G d false) refl (λ i e. cc))
-            (write.same ∙ next);
+            (write.same ∙ next) refl whole.sections.locked;
         stale = stale_write env mix M M' G (with_raised G d false) PortCount v write
             (same_owners env mix G (with_raised G d false) refl) (λ n u f e. cc) (λ n u f e. cc);
         others = λ c ne. Rely-same env mix c M M' G (with_raised G d false) whole
@@ -350,6 +368,7 @@ module _ (env : Env) (mix : ℕ → ℕ → ℕ → ℕ) where
             (put-other G.raised d false c ne) stay (chains_stay env mix c M M' G PortCount v whole write
             (λ n used e. cc))
             (λ s w l is. write.others (Slot s w) (l, is) (λ e. cc))
+            (sections_stay env mix M M' G (with_raised G d false) whole refl (λ k m. write.others (Section k) m (λ e. cc)))
             (λ n w has. write.others (Node n w) has.among (λ e. cc));
       }
 
@@ -365,9 +384,10 @@ module _ (env : Env) (mix : ℕ → ℕ → ℕ → ℕ) where
         Whole-frame env mix M M' G G a v whole write table (λ j entry. page j)
             (same_chains env mix G G.raised) stay (λ j blank. refl) (locks_stay env mix M M' G a v whole write page)
             (arena_stays env mix M M' G a v whole write G refl map) (write.others PortCount tt count
-            ∙ whole.counted),
+            ∙ whole.counted) refl whole.sections.locked,
         λ c. Rely-same env mix c M M' G G whole (same_tables env mix G G.bucket G.node G.bound G.raised)
             refl refl refl refl stay (chains_stay env mix c M M' G a v whole write
             (λ n used. node n ChainLink)) (slots_stay env mix M M' a v write table)
+            (sections_stay env mix M M' G G whole refl (λ k l. write.others (Section k) l (table.sections k)))
             (λ n w has. write.others (Node n w) has.among (node n w)),
       )

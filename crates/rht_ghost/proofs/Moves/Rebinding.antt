@@ -5,16 +5,17 @@ use Rattle.std.specs.Int.{bit_at}
 use Rattle.std.proofs.lemmas.Bool.{cases_eq, eq-eqb}
 use Rattle.rht_words.specs.declared.env.Env.{Env}
 use Rattle.rht_words.specs.declared.config.Kind.TheVariants.{Single}
-use Rattle.rht_words.specs.Places.{Address, PortCount, StateWord, NodeMap, Node, NodeWord, ChainLink, KeyWord, OwnerWord, ListLink, PageWord}
+use Rattle.rht_words.specs.Places.{Address, PortCount, Section, StateWord, NodeMap, Node, NodeWord, ChainLink, KeyWord, OwnerWord, ListLink, PageWord}
 use Rattle.rht_words.specs.Members.{In}
 use Rattle.rht_words.proofs.Memory.{Memory, IsWrite}
 use Rattle.rht_words.proofs.ChainLemmas.{IsSegment-members}
-use Rattle.rht_ghost.proofs.Theory.Ghosts.{put, put-same, put-other, put-all, Owner, Free, NodeHeld, First, Leaving, Behind, Taken, Ghost, is_listed, is_used, is_taken_by, IsUsed, seat_of, seat_in, seat, table_at, is_entry, held_not_used, held_by_one, none-some, some-same}
+use Rattle.rht_ghost.proofs.Theory.Ghosts.{put, put-same, put-other, put-all, Owner, Free, NodeHeld, First, Leaving, Behind, Taken, Ghost, IsSince, is_listed, is_used, is_taken_by, IsUsed, seat_of, seat_in, seat, table_at, is_entry, held_not_used, held_by_one, none-some, some-same}
 use Rattle.rht_ghost.proofs.Theory.Wholes.{list_of, key_of, IsNoBucket, BucketRight, ArmedRight, IsFirstAt, IsBehindIn, IsBoundTo, Owned, ArenaRight, IsBuilt, Whole, MovesNone, seated_at, out-seated, firsts, raisers}
 use Rattle.rht_ghost.proofs.Theory.Passed.{held-bucket, PassesStay, WasSeated}
 use Rattle.rht_ghost.proofs.Theory.Knowledge.{IsEmptied}
 use Rattle.rht_ghost.proofs.Theory.Reliance.{bound_used}
-use Rattle.rht_ghost.proofs.Theory.Frames.{Made, Others, IsNoTableWord, SameTables, same_tables, tables_stay, slots_stay, holdings_stay, work_stays, stale_write}
+use Rattle.rht_ghost.proofs.Theory.SectionFrames.{sections_stay, SectionsRight-write}
+use Rattle.rht_ghost.proofs.Theory.Frames.{Made, Others, IsNoTableWord, no_section, SameTables, same_tables, tables_stay, slots_stay, holdings_stay, work_stays, stale_write}
 use Rattle.rht_ghost.proofs.Theory.WholeFrames.{is_apart, TablesRight-write, SlotsRight-write, PagesRight-write, IsHomeOf-same, BucketRight-frame, MovingStays, EntryWords, MovingRight-frame, Leaving-frame, EntriesRight-write, locked-no_entry}
 use Rattle.rht_ghost.proofs.Theory.Readiness.{Change, changed}
 
@@ -396,6 +397,13 @@ module _ (env : Env) (mix : ℕ → ℕ → ℕ → ℕ) (d : ℕ) (change : Cha
           whole.tables;
       slots = SlotsRight-write env mix M M' G G' a v store.write store.no_table.work
           (λ s. store.no_table.slots s StateWord) same whole.slots;
+      sections = SectionsRight-write env mix M M' G G' a v store.write (no_section env mix a store.no_table) whole.sections refl
+          (λ s τ is. is)
+          (put-all (λ i b. (c : ℕ) → b.holder ≡ Some c → IsSince (G.from c) (table_at G i)) G.bucket here change.bucket
+          (λ c h. elim (cases_eq c d) [
+            | inl e ↦ whole.sections.locked here c (is.holder ∙ ap Some (sym e))
+            | inr ne ↦ absurd (is.released c ne h)
+          ]) (λ i ne. whole.sections.locked i));
       pages = PagesRight-write env mix M M' G G' a v store.write store.no_table.pages same
           (λ i blank. put-other G.bucket here change.bucket i
           (λ e. held-bucket env mix M G whole here d is.holder
@@ -456,7 +464,8 @@ module _ (env : Env) (mix : ℕ → ℕ → ℕ → ℕ) (d : ℕ) (change : Cha
                 (λ empty. absurd (not_emptied empty.nodes)) (λ i apart empty. empty);
             entries = rebound_moving.entries;
             chains = rebound_words.chains;
-          });
+          }) (slots_stay env mix M M' a v store.write store.no_table)
+              (sections_stay env mix M M' G G' whole refl (λ k l. store.write.others (Section k) l (store.no_table.sections k)));
           no_work = λ works. works;
           no_node = owners_all (λ n o. o ≡ NodeHeld c → G.node n ≡ NodeHeld c)
               (λ held. absurd (held_not_used change.one_owner c held is.one_changed.used))

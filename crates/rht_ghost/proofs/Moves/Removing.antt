@@ -117,7 +117,7 @@ module _ (env : Env) (mix : ℕ → ℕ → ℕ → ℕ) (d port j m : ℕ) (fro
             (relink_value (place_at env mix j) link b)
         go None last write = record {
           write = write;
-          no_table = record { current = λ e. cc; work = λ e. cc; slots = λ s w e. cc; pages = λ i e. cc };
+          no_table = record { current = λ e. cc; work = λ e. cc; sections = λ k e. cc; slots = λ s w e. cc; pages = λ i e. cc };
           no_map = λ i e. cc;
           no_count = λ e. cc;
           no_key = λ n e. cc;
@@ -135,7 +135,13 @@ module _ (env : Env) (mix : ℕ → ℕ → ℕ → ℕ) (d port j m : ℕ) (fro
             let mine = front_first p (last_in front p (sym last)) in
             record {
               write = write;
-              no_table = record { current = λ e. cc; work = λ e. cc; slots = λ s w e. cc; pages = λ i e. cc };
+              no_table = record {
+                current = λ e. cc;
+                work = λ e. cc;
+                sections = λ k e. cc;
+                slots = λ s w e. cc;
+                pages = λ i e. cc;
+              };
               no_map = λ i e. cc;
               no_count = λ e. cc;
               no_key = λ n e. cc;

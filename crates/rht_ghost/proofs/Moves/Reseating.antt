@@ -9,12 +9,13 @@ use Rattle.rht_words.specs.Members.{In}
 use Rattle.rht_words.proofs.Memory.{Memory, IsWrite}
 use Rattle.rht_words.proofs.ChainLemmas.{IsSegment-members}
 use Rattle.rht_words.proofs.Members.{count_below-same}
-use Rattle.rht_ghost.proofs.Theory.Ghosts.{IsUsed, seat-used, put, put-same, put-other, put-all, Bucket, Owner, Free, NodeHeld, First, Leaving, Behind, Ghost, is_first, is_taken_by, seat_of, seat_in, seat, seated, seat-first, table_at, is_entry, none-some, some-same}
+use Rattle.rht_ghost.proofs.Theory.Ghosts.{IsUsed, seat-used, put, put-same, put-other, put-all, Bucket, Owner, Free, NodeHeld, First, Leaving, Behind, Ghost, IsSince, is_first, is_taken_by, seat_of, seat_in, seat, seated, seat-first, table_at, is_entry, none-some, some-same}
 use Rattle.rht_ghost.proofs.Theory.Wholes.{list_of, key_of, IsNoBucket, BucketRight, ArmedRight, OutRight, MovingRight, IsNextFor, IsHomeOf, IsFirstAt, IsLeavingAt, Owned, ArenaRight, IsBuilt, Whole, IsSeatedAt, seated_at, firsts, raisers}
 use Rattle.rht_ghost.proofs.Theory.Passed.{held-bucket, PassesStay, WasOut, WasSeated}
 use Rattle.rht_ghost.proofs.Theory.Reliance.{bound_used}
 use Rattle.rht_ghost.proofs.Theory.Departures.{seat-not_out}
-use Rattle.rht_ghost.proofs.Theory.Frames.{Made, Others, IsNoTableWord, SameTables, same_tables, tables_stay, slots_stay, holdings_stay, stale_write}
+use Rattle.rht_ghost.proofs.Theory.SectionFrames.{SectionsRight-write}
+use Rattle.rht_ghost.proofs.Theory.Frames.{Made, Others, IsNoTableWord, no_section, SameTables, same_tables, tables_stay, slots_stay, holdings_stay, stale_write}
 use Rattle.rht_ghost.proofs.Theory.WholeFrames.{is_apart, TablesRight-write, SlotsRight-write, PagesRight-write, IsHomeOf-same, BucketRight-frame, EntriesRight-write, locked-no_entry}
 
 module _ (env : Env) (mix : ℕ → ℕ → ℕ → ℕ) (d here entry : ℕ) (b : Bucket) (node : ℕ → Owner) (M M' : Memory)
@@ -296,6 +297,13 @@ module _ (env : Env) (mix : ℕ → ℕ → ℕ → ℕ) (d here entry : ℕ) (b
           whole.tables;
       slots = SlotsRight-write env mix M M' G G' a v store.write store.no_table.work
           (λ s. store.no_table.slots s StateWord) same whole.slots;
+      sections = SectionsRight-write env mix M M' G G' a v store.write (no_section env mix a store.no_table) whole.sections refl
+          (λ s τ is. is)
+          (put-all (λ i o. (c : ℕ) → o.holder ≡ Some c → IsSince (G.from c) (table_at G i)) G.bucket here b
+          (λ c h. elim (cases_eq c d) [
+            | inl e ↦ whole.sections.locked here c (is.holder ∙ ap Some (sym e))
+            | inr ne ↦ absurd (is.released c ne h)
+          ]) (λ i ne. whole.sections.locked i));
       pages = PagesRight-write env mix M M' G G' a v store.write store.no_table.pages same
           (λ i blank. put-other G.bucket here b i
           (λ e. held-bucket env mix M G whole here d is.holder

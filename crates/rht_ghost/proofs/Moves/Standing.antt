@@ -1,14 +1,16 @@
 -- The stores to the words that say which table is the current one, what has become of the table in each slot, and whether somebody does
 -- the work. What each such store leaves is shown here once.
 use Rattle.std.proofs.Common.{◌≡◌, ◌≢◌, ◌⊎◌, ℕ, ◌/◌, ◌<◌, ◌≤◌, Option, Some, None, true, refl, sym, ◌∙◌, ap, inl, inr, arith}
+use Rattle.std.proofs.lemmas.Bool.{both_ways}
 use Rattle.rht_words.specs.declared.env.Env.{Env}
 use Rattle.rht_words.specs.Places.{Address, CurrentTable, WorkLock, PortCount, Slot, SlotWord, ShapeWord, SeedWord, FutureWord, SerialWord, StateWord, NodeMap, PageMap, Node, NodeWord, ChainLink, KeyWord, ListLink, PageWord}
 use Rattle.rht_words.proofs.Memory.{Memory, IsWrite}
 use Rattle.rht_words.proofs.ChainLemmas.{IsSegment-members}
-use Rattle.rht_ghost.proofs.Theory.Ghosts.{Ghost, First, Leaving, SlotOwner, SlotHeld, Live, lock_bit, state_word, has_table, index_at, table_of_slot, table_at, is_used, seat_of}
-use Rattle.rht_ghost.proofs.Theory.Wholes.{AreRetired, list_of, key_of, TablesRight, PagesRight, OutRight, MovingRight, IsLeavingAt, Owned, Whole, IsThere}
-use Rattle.rht_ghost.proofs.Theory.Passed.{TablesGrow, Passed-stays, same-TableStays}
-use Rattle.rht_ghost.proofs.Theory.Reliance.{TablesStay}
+use Rattle.rht_ghost.proofs.Theory.Ghosts.{put, put-other, put-all, Ghost, First, Leaving, SlotOwner, SlotHeld, Live, Retired, Back, lock_bit, state_word, has_table, held-no_table, slot_holder, unretired, index_at, table_of_slot, table_at, is_used, seat_of}
+use Rattle.rht_ghost.proofs.Theory.Wholes.{AreRetired, list_of, key_of, TablesRight, SectionsRight, PagesRight, OutRight, MovingRight, IsLeavingAt, Owned, Whole, IsThere}
+use Rattle.rht_ghost.proofs.Theory.Passed.{TablesGrow, same-TableStays}
+use Rattle.rht_ghost.proofs.Theory.SectionFrames.{IsNoSectionWord, SectionsRight-write}
+use Rattle.rht_ghost.proofs.Theory.Reliance.{TablesStay, all_stay}
 use Rattle.rht_ghost.proofs.Theory.Frames.{Others, Made, UsedStay, used_stay, seat_stays, chains_stay, passes_same, stale_write, same_owners}
 use Rattle.rht_ghost.proofs.Theory.WholeFrames.{no_bucket, BucketRight-frame, arena_stays}
 use Rattle.rht_ghost.proofs.Theory.Departures.{with_standing}
@@ -18,9 +20,9 @@ pub record SlotsStand (G : Ghost) (current : ℕ) (slot : ℕ → SlotOwner) : T
   pub has : (s : ℕ) → has_table (slot s) ≡ has_table (G.slot s)
   pub index : (s : ℕ) → has_table (G.slot s) ≡ true → table_of_slot (slot s) ≡ index_at G s
   pub live : (τ : ℕ) → τ < G.attached → current ≤ τ → slot (G.table τ).slot ≡ Live τ
-  pub was_live : (s τ : ℕ) → slot s ≡ Live τ → G.slot s ≡ Live τ
-  pub held : (s c : ℕ) → G.slot s ≡ SlotHeld c → slot s ≡ SlotHeld c
-  pub not_held : (s c : ℕ) → slot s ≡ SlotHeld c → G.slot s ≡ SlotHeld c
+  pub was_unretired : (s τ : ℕ) → unretired (slot s) ≡ Some τ → unretired (G.slot s) ≡ Some τ
+  pub held : (s c : ℕ) → slot_holder (G.slot s) ≡ Some c → slot s ≡ G.slot s
+  pub not_held : (s c : ℕ) → slot_holder (slot s) ≡ Some c → slot_holder (G.slot s) ≡ Some c
 
 -- the word is none of a node, of a bucket, of a map, not the count, and none of a slot that its table's readers load or that a
 -- caller has
@@ -44,15 +46,47 @@ module _ (env : Env) (mix : ℕ → ℕ → ℕ → ℕ) where
     has = λ s. refl;
     index = λ s has. refl;
     live = λ τ l from. whole.tables.force τ (omega (arith, later, from)) l;
-    was_live = λ s τ is. is;
-    held = λ s c is. is;
+    was_unretired = λ s τ is. is;
+    held = λ s c is. refl;
     not_held = λ s c is. is;
   }
+
+  -- and where a table that was left behind has its slot otherwise than before, but isn't there again where it was retired
+  pub restanding : (M : Memory) (G : Ghost) → Whole env mix M G → (s : ℕ) (owner : SlotOwner) → has_table (G.slot s) ≡ true
+      → index_at G s < G.current → has_table owner ≡ true → table_of_slot owner ≡ index_at G s
+      → ((τ : ℕ) → unretired owner ≡ Some τ → unretired (G.slot s) ≡ Some τ) → SlotsStand G G.current (put G.slot s owner)
+  restanding M G whole s owner was left has index before =
+      let none_before : (c : ℕ) → slot_holder (G.slot s) ≢ Some c =
+      λ c held. both_ways (has_table (G.slot s)) (held-no_table (G.slot s) c held) was in
+      let none_after : (c : ℕ) → slot_holder owner ≢ Some c =
+      λ c held. both_ways (has_table owner) (held-no_table owner c held) has in
+      record {
+        has = put-all (λ i o. has_table o ≡ has_table (G.slot i)) G.slot s owner (has ∙ sym was) (λ i ne. refl);
+        index = put-all (λ i o. has_table (G.slot i) ≡ true → table_of_slot o ≡ index_at G i) G.slot s owner
+            (λ there. index) (λ i ne there. refl);
+        live = λ τ l from.
+            let live = whole.tables.force τ from l in
+            put-other G.slot s owner (G.table τ).slot
+            (λ e. let same : index_at G s ≡ τ = ap (index_at G) (sym e) ∙ ap table_of_slot live in
+            omega (arith, same, from, left)) ∙ live;
+        was_unretired = λ i τ. put-all (λ k o. unretired o ≡ Some τ → unretired (G.slot k) ≡ Some τ) G.slot s owner (before τ)
+            (λ k ne is. is) i;
+        held = λ i c. put-all (λ k o. slot_holder (G.slot k) ≡ Some c → o ≡ G.slot k) G.slot s owner
+            (λ held. absurd (none_before c held)) (λ k ne held. refl) i;
+        not_held = λ i c. put-all (λ k o. slot_holder o ≡ Some c → slot_holder (G.slot k) ≡ Some c) G.slot s owner
+            (λ held. absurd (none_after c held)) (λ k ne held. held) i;
+      }
 
   module _ (d : ℕ) (M M' : Memory) (G : Ghost) (current : ℕ) (slot : ℕ → SlotOwner) (worker : Option ℕ)
       (a : Address) (v : ℕ) where
     abbrev after : Ghost
     after = with_standing G current slot worker
+
+    -- what sections say stays right where no section word is stored, and nothing is retired
+    pub restated_sections : Whole env mix M G → IsWrite env.geometry M M' a v → IsNoSectionWord a
+        → ((s τ : ℕ) → slot s ≡ Retired τ → G.slot s ≡ Retired τ) → SectionsRight env mix M' after
+    restated_sections whole write apart was_retired =
+        SectionsRight-write env mix M M' G after a v write apart whole.sections refl was_retired whole.sections.locked
 
     -- What the store makes of tables and of the work. No entry is on its way, or the same table is the current one and the same caller
     -- does the work.
@@ -66,6 +100,8 @@ module _ (env : Env) (mix : ℕ → ℕ → ℕ → ℕ) where
       pub states : (s : ℕ) → s < 8 → M' (Slot s StateWord) ≡ state_word (slot s)
       pub worker_is : M' WorkLock ≡ lock_bit worker
       pub retired : worker ≡ None → AreRetired after None
+      pub back : (s c : ℕ) → slot s ≡ Back c → worker ≡ Some c
+      pub sections : SectionsRight env mix M' after
       pub no_other : (c : ℕ) → c ≢ d → G.worker ≢ Some c
       pub none_gets_it : (c : ℕ) → c ≢ d → worker ≢ Some c
       pub seats : (n j : ℕ) → G.node n ≡ First j → current ≤ table_at G j
@@ -88,7 +124,6 @@ module _ (env : Env) (mix : ℕ → ℕ → ℕ → ℕ) where
         current_in = is.current_in;
         current_is = is.current_is;
         force = λ τ from l. is.slots.live τ l from;
-        there = λ τ l. restated_there τ (whole.tables.there τ l);
         each = λ τ now.
             let s = (G.table τ).slot in
             let has = sym (is.slots.has s) ∙ now.has_slot in
@@ -227,7 +262,8 @@ module _ (env : Env) (mix : ℕ → ℕ → ℕ → ℕ) where
       restated_whole : Whole env mix M' after
       restated_whole = record {
         tables = restated_tables;
-        slots = record { states = is.states; worker_is = is.worker_is; retired = is.retired };
+        slots = record { states = is.states; worker_is = is.worker_is; retired = is.retired; back = is.back };
+        sections = is.sections;
         pages = restated_pages;
         buckets = λ j l none. BucketRight-frame env mix M M' j (G.bucket j)
             (is.write.others (PageWord j) l (is.word.no_page j))
@@ -247,21 +283,19 @@ module _ (env : Env) (mix : ℕ → ℕ → ℕ → ℕ) where
         placed = λ τ b j l at. inl at;
         attached = omega arith;
         current = is.later;
-        live = λ s τ now l. is.slots.was_live s τ now;
+        live = λ s τ now l. is.slots.was_unretired s τ now;
         there = λ τ l was. restated_there τ (was l);
         pages = λ p τ of. of;
       }
 
       pub restated_stay : TablesStay env mix G after
-      restated_stay = record {
-        grow = restated_grow;
-        passed = Passed-stays env mix M G after whole restated_grow (passes_same env mix M G after whole (record {
-          armed = λ j c at. at;
-          out = λ j. refl;
-          bound = λ port. refl;
-          used = λ n used. refl;
-        }));
-      }
+      restated_stay =
+          all_stay env mix M G after whole restated_grow (passes_same env mix M G after whole (record {
+            armed = λ j c at. at;
+            out = λ j. refl;
+            bound = λ port. refl;
+            used = λ n used. refl;
+          }))
 
       restated_others : Others env mix d M G M' after
       restated_others c ne = record {

@@ -5,7 +5,7 @@ use Rattle.std.specs.Int.{bit_at, bit_not, w64}
 use Rattle.std.proofs.lemmas.Bool.{cases_eq}
 use Rattle.rht_words.specs.declared.env.Env.{Env}
 use Rattle.rht_words.specs.Maps.{bit_of, IsBitIn}
-use Rattle.rht_words.specs.Places.{PortCount, Slot, NodeMap, Node, NodeWord, ChainLink, KeyWord, OwnerWord, ListLink, map_words}
+use Rattle.rht_words.specs.Places.{PortCount, Section, Slot, NodeMap, Node, NodeWord, ChainLink, KeyWord, OwnerWord, ListLink, map_words}
 use Rattle.rht_words.proofs.BitChanges.{bit_at-cleared, bit_at-cleared_other, bit_at-set, bit_at-set_other}
 use Rattle.rht_words.proofs.Memory.{Memory, IsWrite}
 use Rattle.rht_words.specs.Members.{In}
@@ -15,6 +15,7 @@ use Rattle.rht_ghost.proofs.Theory.Wholes.{chain_of, key_of, ArenaRight, IsBuilt
 use Rattle.rht_ghost.proofs.Theory.SeatedLinks.{chain-seated}
 use Rattle.rht_ghost.proofs.Theory.Knowledge.{HasNode}
 use Rattle.rht_ghost.proofs.Theory.Reliance.{bound_used}
+use Rattle.rht_ghost.proofs.Theory.SectionFrames.{sections_stay}
 use Rattle.rht_ghost.proofs.Theory.Frames.{Made, UsedStay, used_stay, chains_stay, holdings_stay, entries_stay, work_stays, tables_stay, same_tables, Rely-same, GoesBack, owners_left, stale_write, same_owners, reowned_owners}
 use Rattle.rht_ghost.proofs.Theory.WholeFrames.{chains_passes, SameChains, same_chains, Whole-frame, locks_stay, arena_stays}
 
@@ -38,15 +39,17 @@ module _ (env : Env) (mix : ℕ → ℕ → ℕ → ℕ) where
       } in
       record {
         whole = Whole-frame env mix M M' G G (Node n w) v whole write
-            (record { current = λ e. cc; work = λ e. cc; slots = λ s u e. cc; pages = λ i e. cc }) (λ j entry e. cc)
+            (record { current = λ e. cc; work = λ e. cc; sections = λ k e. cc; slots = λ s u e. cc; pages = λ i e. cc })
+            (λ j entry e. cc)
             (same_chains env mix G G.raised) words (λ j blank. refl)
             (locks_stay env mix M M' G (Node n w) v whole write (λ j e. cc))
             (arena_stays env mix M M' G (Node n w) v whole write G refl (λ i e. cc))
-            (write.others PortCount tt (λ e. cc) ∙ whole.counted);
+            (write.others PortCount tt (λ e. cc) ∙ whole.counted) refl whole.sections.locked;
         others = λ c ne. Rely-same env mix c M M' G G whole
             (same_tables env mix G G.bucket G.node G.bound G.raised) refl refl refl refl words
             (chains_stay env mix c M M' G (Node n w) v whole write (λ m used e. other m used (cc)))
             (λ s u l is. write.others (Slot s u) (l, is) (λ e. cc))
+            (sections_stay env mix M M' G G whole refl (λ k l. write.others (Section k) l (λ e. cc)))
             (λ m u held. others_node m u held.among (λ e. ne
             (held_by_one (G.node n) c d (ap G.node (sym e) ∙ held.mine) has.mine)));
         stale = stale_write env mix M M' G G (Node n w) v write (same_owners env mix G G refl)
@@ -88,11 +91,12 @@ module _ (env : Env) (mix : ℕ → ℕ → ℕ → ℕ) where
       } in
       record {
         whole = Whole-frame env mix M M' G G (Node n ChainLink) v whole write
-            (record { current = λ e. cc; work = λ e. cc; slots = λ s u e. cc; pages = λ i e. cc }) (λ j entry e. cc)
+            (record { current = λ e. cc; work = λ e. cc; sections = λ k e. cc; slots = λ s u e. cc; pages = λ i e. cc })
+            (λ j entry e. cc)
             (same_chains env mix G G.raised) words (λ j blank. refl)
             (locks_stay env mix M M' G (Node n ChainLink) v whole write (λ j e. cc))
             (arena_stays env mix M M' G (Node n ChainLink) v whole write G refl (λ i e. cc))
-            (write.others PortCount tt (λ e. cc) ∙ whole.counted);
+            (write.others PortCount tt (λ e. cc) ∙ whole.counted) refl whole.sections.locked;
         stale = record {
           owners = owners_left env mix (same_owners env mix G G refl);
           chains = λ m l used none. elim (cases_eq m n) [
@@ -120,6 +124,7 @@ module _ (env : Env) (mix : ℕ → ℕ → ℕ → ℕ) where
             let is = bound_used env mix M G whole (key_of M k) (G.bound (key_of M k)) refl m b in
             write.others (Node m ChainLink) is.0 (λ e. ne (holder_one i k m h here b (cc))))
             (λ s u l is. write.others (Slot s u) (l, is) (λ e. cc))
+            (sections_stay env mix M M' G G whole refl (λ k l. write.others (Section k) l (λ e. cc)))
             (λ m u held. write.others (Node m u) held.among (λ e.
             let same : m ≡ n = cc in
             let q : NodeHeld c ≡ Behind port = sym held.mine ∙ ap G.node same ∙ behind in cc));
@@ -212,14 +217,15 @@ module _ (env : Env) (mix : ℕ → ℕ → ℕ → ℕ) where
   reowned i b value owner M M' G whole at is_built write was now here others =
       let n = 64 * i + b in
       Whole-frame env mix M M' G (with_owner G n owner) (NodeMap i) value whole write
-      (record { current = λ e. cc; work = λ e. cc; slots = λ s u e. cc; pages = λ i e. cc }) (λ j entry e. cc)
+      (record { current = λ e. cc; work = λ e. cc; sections = λ k e. cc; slots = λ s u e. cc; pages = λ i e. cc })
+      (λ j entry e. cc)
       (reowned_chains G n owner was now)
       (used_stay env mix M M' G (NodeMap i) value whole write (λ m w e. cc)) (λ j blank. refl)
       (locks_stay env mix M M' G (NodeMap i) value whole write (λ j e. cc))
       (reowned_bits i b value owner M M' G whole at is_built write here others)
       (write.others PortCount tt (λ e. cc) ∙ whole.counted
       ∙ ap (λ x. x + raisers env mix G) (sym (reowned_firsts G n owner
-      (unlisted-not_first (G.node n) was) (unlisted-not_first owner now))))
+      (unlisted-not_first (G.node n) was) (unlisted-not_first owner now)))) refl whole.sections.locked
 
   -- a write that leaves the bits of a word of the node map as they were
   pub retouch : (d i value : ℕ) (M M' : Memory) (G : Ghost) → Whole env mix M G
@@ -229,7 +235,8 @@ module _ (env : Env) (mix : ℕ → ℕ → ℕ → ℕ) where
       let words = used_stay env mix M M' G (NodeMap i) value whole write (λ m w e. cc) in
       record {
         whole = Whole-frame env mix M M' G G (NodeMap i) value whole write
-            (record { current = λ e. cc; work = λ e. cc; slots = λ s u e. cc; pages = λ i e. cc }) (λ j entry e. cc)
+            (record { current = λ e. cc; work = λ e. cc; sections = λ k e. cc; slots = λ s u e. cc; pages = λ i e. cc })
+            (λ j entry e. cc)
             (same_chains env mix G G.raised) words (λ j blank. refl)
             (locks_stay env mix M M' G (NodeMap i) value whole write (λ j e. cc))
             (record {
@@ -238,7 +245,7 @@ module _ (env : Env) (mix : ℕ → ℕ → ℕ → ℕ) where
                   λ n k. rw (map_bit_stays i value n M M' write k (λ e. same (n % 64) (omega arith)))
                   (whole.arena.bits n k);
             })
-            (write.others PortCount tt (λ e. cc) ∙ whole.counted);
+            (write.others PortCount tt (λ e. cc) ∙ whole.counted) refl whole.sections.locked;
         stale = stale_write env mix M M' G G (NodeMap i) value write (same_owners env mix G G refl)
             (λ n u f e. cc) (λ n u f e. cc);
         others =
@@ -246,6 +253,7 @@ module _ (env : Env) (mix : ℕ → ℕ → ℕ → ℕ) where
             (same_tables env mix G G.bucket G.node G.bound G.raised) refl refl refl refl words
             (chains_stay env mix c M M' G (NodeMap i) value whole write (λ m used e. cc))
             (λ s w l is. write.others (Slot s w) (l, is) (λ e. cc))
+            (sections_stay env mix M M' G G whole refl (λ k l. write.others (Section k) l (λ e. cc)))
             (λ m w has. write.others (Node m w) has.among (λ e. cc));
       }
 
@@ -293,7 +301,10 @@ module _ (env : Env) (mix : ℕ → ℕ → ℕ → ℕ) where
             holdings = holdings_stay env mix c M M' G (with_owner G n (NodeHeld d)) same.tables
                 (λ s w l is. write.others (Slot s w) (l, is) (λ e. cc));
             work = work_stays env mix c M M' G (with_owner G n (NodeHeld d)) same.tables
-                (entries_stay env mix M M' G (with_owner G n (NodeHeld d)) whole stay same.used (λ j is. is));
+                (entries_stay env mix M M' G (with_owner G n (NodeHeld d)) whole stay same.used (λ j is. is))
+                (λ s w l is. write.others (Slot s w) (l, is) (λ e. cc))
+                (sections_stay env mix M M' G (with_owner G n (NodeHeld d)) whole refl
+                (λ k l. write.others (Section k) l (λ e. cc)));
             no_work = λ works. works;
             no_node =
                 λ m. put-all (λ k o. o ≡ NodeHeld c → G.node k ≡ NodeHeld c) G.node n (NodeHeld d)
@@ -345,7 +356,9 @@ module _ (env : Env) (mix : ℕ → ℕ → ℕ → ℕ) where
           holdings = holdings_stay env mix c M M' G (with_owner G n Free) same.tables
               (λ s w l is. write.others (Slot s w) (l, is) (λ e. cc));
           work = work_stays env mix c M M' G (with_owner G n Free) same.tables
-              (entries_stay env mix M M' G (with_owner G n Free) whole stay same.used (λ j is. is));
+              (entries_stay env mix M M' G (with_owner G n Free) whole stay same.used (λ j is. is))
+              (λ s w l is. write.others (Slot s w) (l, is) (λ e. cc))
+              (sections_stay env mix M M' G (with_owner G n Free) whole refl (λ k l. write.others (Section k) l (λ e. cc)));
           no_work = λ works. works;
           no_node =
               λ m. put-all (λ k o. o ≡ NodeHeld c → G.node k ≡ NodeHeld c) G.node n Free (λ e. absurd (cc))
@@ -393,7 +406,9 @@ module _ (env : Env) (mix : ℕ → ℕ → ℕ → ℕ) where
           holdings = holdings_stay env mix c M M' G (with_owner G n Free) same.tables
               (λ s w l is. write.others (Slot s w) (l, is) (λ e. cc));
           work = work_stays env mix c M M' G (with_owner G n Free) same.tables
-              (entries_stay env mix M M' G (with_owner G n Free) whole stay same.used (λ j is. is));
+              (entries_stay env mix M M' G (with_owner G n Free) whole stay same.used (λ j is. is))
+              (λ s w l is. write.others (Slot s w) (l, is) (λ e. cc))
+              (sections_stay env mix M M' G (with_owner G n Free) whole refl (λ k l. write.others (Section k) l (λ e. cc)));
           no_work = λ works. works;
           no_node =
               λ m. put-all (λ k o. o ≡ NodeHeld c → G.node k ≡ NodeHeld c) G.node n Free (λ e. absurd (cc))

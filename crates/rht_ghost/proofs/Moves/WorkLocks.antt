@@ -1,13 +1,13 @@
 -- The moves of the work lock: a caller begins to do the work, and ends it.
-use Rattle.std.proofs.Common.{◌≡◌, ◌≢◌, ℕ, Option, Some, None, refl, sym, ◌∙◌, inl, arith}
+use Rattle.std.proofs.Common.{◌≡◌, ◌≢◌, ℕ, Option, Some, None, refl, sym, ◌∙◌, ap, inl, arith}
 use Rattle.rht_words.specs.declared.env.Env.{Env}
 use Rattle.rht_words.specs.Places.{CurrentTable, WorkLock, Slot, StateWord}
 use Rattle.rht_words.proofs.Memory.{Memory, IsWrite}
-use Rattle.rht_ghost.proofs.Theory.Ghosts.{Ghost, lock_bit, none-some}
+use Rattle.rht_ghost.proofs.Theory.Ghosts.{Ghost, Back, slot_holder, lock_bit, none-some}
 use Rattle.rht_ghost.proofs.Theory.Wholes.{AreRetired, MovesNone, Whole}
 use Rattle.rht_ghost.proofs.Theory.Frames.{Made}
 use Rattle.rht_ghost.proofs.Theory.Departures.{with_worker}
-use Rattle.rht_ghost.proofs.Moves.Standing.{IsStandingWord, slots_stand, IsRestated, restate}
+use Rattle.rht_ghost.proofs.Moves.Standing.{IsStandingWord, slots_stand, restated_sections, IsRestated, restate}
 
 module _ (env : Env) (mix : ℕ → ℕ → ℕ → ℕ) where
   lock_word : (G : Ghost) → IsStandingWord G WorkLock
@@ -27,10 +27,11 @@ module _ (env : Env) (mix : ℕ → ℕ → ℕ → ℕ) where
   -- where no entry is on its way, the work may go from caller to caller
   reworked : (d v : ℕ) (worker : Option ℕ) (M M' : Memory) (G : Ghost) → Whole env mix M G
       → ((j entry : ℕ) → (G.bucket j).out ≢ Some entry) → ((c : ℕ) → c ≢ d → G.worker ≢ Some c)
-      → ((c : ℕ) → c ≢ d → worker ≢ Some c) → (worker ≡ None → AreRetired G None) → v ≡ lock_bit worker
+      → ((c : ℕ) → c ≢ d → worker ≢ Some c) → (worker ≡ None → AreRetired G None)
+      → ((s c : ℕ) → G.slot s ≡ Back c → worker ≡ Some c) → v ≡ lock_bit worker
       → IsWrite env.geometry M M' WorkLock v
       → IsRestated env mix d M M' G G.current G.slot worker WorkLock v
-  reworked d v worker M M' G whole none before after retired is write = record {
+  reworked d v worker M M' G whole none before after retired back is write = record {
     write = write;
     word = lock_word G;
     current_in = whole.tables.current_in;
@@ -40,6 +41,9 @@ module _ (env : Env) (mix : ℕ → ℕ → ℕ → ℕ) where
     states = λ s l. write.others (Slot s StateWord) (l, tt) (λ e. cc) ∙ whole.slots.states s l;
     worker_is = write.same ∙ is;
     retired = retired;
+    back = back;
+    sections = restated_sections env mix d M M' G G.current G.slot worker WorkLock v whole write
+        (record { own = λ c e. cc; kept = λ s c e. cc }) (λ s τ is. is);
     no_other = before;
     none_gets_it = after;
     seats = λ n j first. (whole.owned.first_at n j first).at_home.current;
@@ -60,15 +64,18 @@ module _ (env : Env) (mix : ℕ → ℕ → ℕ → ℕ) where
         restate env mix d M M' G G.current G.slot (Some d) WorkLock 1 whole
             (reworked d 1 (Some d) M M' G whole
             (λ j entry out. none-some free (whole.moving.out j entry out).works)
-            (λ c ne works. none-some free works) (λ c ne e. ne (cc)) (λ none. absurd (cc)) refl write),
+            (λ c ne works. none-some free works) (λ c ne e. ne (cc)) (λ none. absurd (cc))
+            (λ s c is. absurd (none-some free (whole.slots.back s c is))) refl write),
         free,
       )
 
-  -- the store of 0 by the caller that does the work, has no entry on its way, and has left no table behind that isn't retired
+  -- the store of 0 by the caller that does the work, has no entry on its way, has left no table behind that isn't retired, and
+  -- gives none back
   pub give_work : (d : ℕ) (M M' : Memory) (G : Ghost) → Whole env mix M G → G.worker ≡ Some d
-      → MovesNone env mix G d → AreRetired G None → IsWrite env.geometry M M' WorkLock 0
+      → MovesNone env mix G d → AreRetired G None → ((s : ℕ) → slot_holder (G.slot s) ≢ Some d)
+      → IsWrite env.geometry M M' WorkLock 0
       → Made env mix d M G M' (with_worker G None)
-  give_work d M M' G whole works none retired write =
+  give_work d M M' G whole works none retired holds_none write =
       restate env mix d M M' G G.current G.slot None WorkLock 0 whole
       (reworked d 0 None M M' G whole
       (λ j entry out.
@@ -76,4 +83,7 @@ module _ (env : Env) (mix : ℕ → ℕ → ℕ → ℕ) where
       let same : ◌≡◌ {A = Option ℕ} (Some is.worker) (Some d) = sym is.works ∙ works in
       none j entry out (is.holder ∙ same))
       (λ c ne other. let e : ◌≡◌ {A = Option ℕ} (Some d) (Some c) = sym works ∙ other in ne (cc))
-      (λ c ne e. cc) (λ idle. retired) refl write)
+      (λ c ne e. cc) (λ idle. retired)
+      (λ s c is.
+      let same : ◌≡◌ {A = Option ℕ} (Some d) (Some c) = sym works ∙ whole.slots.back s c is in
+      absurd (holds_none s (ap slot_holder is ∙ sym same))) refl write)

@@ -1,5 +1,5 @@
 -- The moves of the caller that does the work, by what it knows before each of them, and what it knows after it.
-use Rattle.std.proofs.Common.{◌≡◌, ◌⊎◌, ℕ, ◌+◌, ◌/◌, ◌%◌, ◌<◌, List, [], ◌∷◌, ◌++◌, Option, Some, None, refl, sym, ◌∙◌, ap, subst, inl, inr, arith}
+use Rattle.std.proofs.Common.{◌≡◌, ◌≢◌, ◌⊎◌, ℕ, ◌+◌, ◌/◌, ◌%◌, ◌<◌, List, [], ◌∷◌, ◌++◌, Option, Some, None, refl, sym, ◌∙◌, ap, subst, inl, inr, arith}
 use Rattle.std.proofs.lemmas.Bool.{cases_eq}
 use Rattle.rht_words.specs.declared.env.Env.{Env}
 use Rattle.rht_words.specs.Links.{link_of, head_of}
@@ -8,13 +8,13 @@ use Rattle.rht_words.specs.Places.{CurrentTable, WorkLock, Slot, StateWord, Node
 use Rattle.rht_words.specs.Members.{In}
 use Rattle.rht_words.proofs.Memory.{Memory, IsWrite}
 use Rattle.rht_words.proofs.Members.{in-middle}
-use Rattle.rht_ghost.proofs.Theory.Ghosts.{put, put-same, put-other, put-all, Bucket, Owner, First, Leaving, Live, Retired, Ghost, has_table, index_at, table_of_slot, table_at, held_by, with_holder, none-some, some-same}
+use Rattle.rht_ghost.proofs.Theory.Ghosts.{put, put-same, put-other, put-all, Bucket, Owner, First, Leaving, Live, Retiring, IsSince, Ghost, has_table, unretired, unretired-has, slot_holder, index_at, table_of_slot, table_at, held_by, with_holder, none-some, some-same}
 use Rattle.rht_ghost.proofs.Theory.Wholes.{AreRetired, current-there, key_of, place_at, word_index, place_at-index, index-place_at, index-within, home, IsNoBucket, MovesNone, Whole, force-there}
 use Rattle.rht_ghost.proofs.Theory.Passed.{place-table, home-table, home-bucket, place-bucket}
-use Rattle.rht_ghost.proofs.Theory.Knowns.{last_of, KnownAim, NoAim, KnownRehash, KnownPlace, KnownEntry, KnownWork, NoWork, Works, Empties, LeavesBehind, InBucket, Brings, TakesOut, HasBrought}
-use Rattle.rht_ghost.proofs.Theory.Knowledge.{DoesWork, IsEmptied, IsEmptying, IsLeftBehind, IsFacing, IsNext, IsInBucket, IsBare, IsEntry, IsAim, IsAiming, IsTarget, IsBringing, IsTakenOut, IsBrought, WorkMeans}
+use Rattle.rht_ghost.proofs.Theory.Knowns.{last_of, KnownAim, NoAim, KnownRehash, KnownPlace, KnownEntry, KnownWork, NoWork, Works, Empties, LeavesBehind, HasKept, InBucket, Brings, TakesOut, HasBrought}
+use Rattle.rht_ghost.proofs.Theory.Knowledge.{DoesWork, since-later, IsEmptied, IsEmptying, IsLeftBehind, IsFacing, IsNext, IsInBucket, IsBare, IsEntry, IsAim, IsAiming, IsTarget, IsBringing, IsTakenOut, IsBrought, WorkMeans}
 use Rattle.rht_ghost.proofs.Theory.Frames.{Made}
-use Rattle.rht_ghost.proofs.Theory.Departures.{with_worker, published, retired, left_by, left, arrived, cut_plain, cut_by, cut_off, IsNextPlace, CanLeave, CanArrive, CanCut, CanPublish, CanRetire}
+use Rattle.rht_ghost.proofs.Theory.Departures.{with_worker, published, retiring, left_by, left, arrived, cut_plain, cut_by, cut_off, IsNextPlace, CanLeave, CanArrive, CanCut, CanPublish, CanRetire}
 use Rattle.rht_ghost.proofs.Theory.Readiness.{linked_bucket}
 use Rattle.rht_ghost.proofs.Moves.Quiet.{take_lock, drop_lock, free-still}
 use Rattle.rht_ghost.proofs.Moves.Relinking.{relink_address}
@@ -113,6 +113,7 @@ module _ (env : Env) (mix : ℕ → ℕ → ℕ → ℕ) (c : ℕ) where
     can_retire slot works is = record {
       works = works.0;
       table = ap has_table is.live;
+      live = is.live ∙ ap Live (sym (ap table_of_slot is.live));
       left_behind = let index : index_at G slot ≡ is.table = ap table_of_slot is.live in omega (arith, index, is.before);
     }
 
@@ -301,16 +302,31 @@ module _ (env : Env) (mix : ℕ → ℕ → ℕ → ℕ) (c : ℕ) where
     faced_bucket root number place is bucketless =
         place-bucket env mix M G whole G.current number (index place) (current-there env mix whole.tables) is.below is.here bucketless
 
+    -- of the current table, to which the caller's section comes
+    pub faced-since : IsSince (G.from c) G.current → (root : KnownRehash) (number place : ℕ)
+        → IsFacing env mix G root number place → IsSince (G.from c) (table_at G (index place))
+    faced-since since root number place is =
+        let table = place-table env mix M G whole G.current number (index place) (current-there env mix whole.tables) is.below
+        is.here in
+        subst (IsSince (G.from c)) (sym table) since
+
+    -- so does it to that to which an entry goes
+    pub aimed-since : IsSince (G.from c) G.current → (entry place : ℕ) → IsAim env mix M G entry place
+        → IsSince (G.from c) (table_at G (index place))
+    aimed-since since entry place aim =
+        let table = aim_table entry place aim in
+        since-later (G.from c) G.current (table_at G (index place)) (omega (arith, table, aim.later)) since
+
     -- it is locked
-    pub lock_work : DoesWork c G None → (root : KnownRehash) (number place word : ℕ) (M' : Memory)
+    pub lock_work : DoesWork c G None → IsSince (G.from c) G.current → (root : KnownRehash) (number place word : ℕ) (M' : Memory)
         → IsFacing env mix G root number place → M (PageWord (index place)) ≡ word → word % 2 ≡ 0
         → IsWrite env.geometry M M' (PageWord (index place)) (word + 1)
         → Worked M G M' (with_holder G (index place) (Some c))
         (InBucket root (record { number = number; place = place; word = word }) NoAim)
-    lock_work works root number place word M' is found even write =
+    lock_work works since root number place word M' is found even write =
         let j = index place in
         let taken = take_lock env mix c j word M M' G whole (index-within env mix place is.bucket)
-        (faced_bucket root number place is) found even write in
+        (faced_bucket root number place is) (faced-since since root number place is) found even write in
         let held = held_by (G.bucket j) (Some c) in
         let here : put G.bucket j held j ≡ held = put-same G.bucket j held in
         record {
@@ -337,12 +353,12 @@ module _ (env : Env) (mix : ℕ → ℕ → ℕ → ℕ) (c : ℕ) where
         }
 
     -- and that to which its last entry goes
-    pub lock_second_work : DoesWork c G None → (root : KnownRehash) (at : KnownPlace) (entry : KnownEntry) (place word : ℕ)
-        (M' : Memory) → IsAiming env mix c M G root at entry place
+    pub lock_second_work : DoesWork c G None → IsSince (G.from c) G.current → (root : KnownRehash) (at : KnownPlace)
+        (entry : KnownEntry) (place word : ℕ) (M' : Memory) → IsAiming env mix c M G root at entry place
         → M (PageWord (index place)) ≡ word → word % 2 ≡ 0
         → IsWrite env.geometry M M' (PageWord (index place)) (word + 1)
         → Worked M G M' (with_holder G (index place) (Some c)) (Brings root at entry place word)
-    lock_second_work works root at entry place word M' is found even write =
+    lock_second_work works since root at entry place word M' is found even write =
         let i = index place in
         let j = index at.place in
         let aim = is.aim in
@@ -350,7 +366,8 @@ module _ (env : Env) (mix : ℕ → ℕ → ℕ → ℕ) (c : ℕ) where
         let next = stands.bucket.next in
         let taken = take_lock env mix c i word M M' G whole (index-within env mix place aim.bucket)
         (home-bucket env mix M G whole (key_of M entry.node) aim.table i
-        (force-there env mix whole.tables aim.table (let later = aim.later in omega (arith, later)) aim.attached) aim.here) found even write in
+        (force-there env mix whole.tables aim.table (let later = aim.later in omega (arith, later)) aim.attached) aim.here)
+        (aimed-since since entry.node place aim) found even write in
         let held = held_by (G.bucket i) (Some c) in
         let G' = with_holder G i (Some c) in
         let there : G'.bucket i ≡ held = put-same G.bucket i held in
@@ -476,8 +493,9 @@ module _ (env : Env) (mix : ℕ → ℕ → ℕ → ℕ) (c : ℕ) where
               works.0,
               λ s τ live l. elim (cases_eq τ G.current) [
                 | inl e ↦
-                    let index : index_at G s ≡ G.current = ap table_of_slot live ∙ e in
-                    let slot = (whole.tables.slots s (ap has_table live)).slot in
+                    let has = unretired-has (G.slot s) τ live in
+                    let index : index_at G s ≡ G.current = has.1 ∙ e in
+                    let slot = (whole.tables.slots s has.0).slot in
                     ap Some (sym root_is ∙ ap (λ σ. (G.table σ).slot) (sym index) ∙ slot)
                 | inr ne ↦ absurd (none-some refl (works.1 s τ live (omega (arith, l, ne))))
               ],
@@ -490,19 +508,27 @@ module _ (env : Env) (mix : ℕ → ℕ → ℕ → ℕ) (c : ℕ) where
           };
         }
 
-    -- and is retired
-    pub retire_work : (slot : ℕ) → DoesWork c G (Some slot) → (M' : Memory) → IsLeftBehind env mix G slot
-        → IsWrite env.geometry M M' (Slot slot StateWord) 2 → Worked M G M' (retired G slot) Works
-    retire_work slot works M' is write = record {
+    -- and is being retired: no section word is kept yet
+    pub retire_work : (slot : ℕ) → DoesWork c G (Some slot) → (M' : Memory) → slot < 8 → IsLeftBehind env mix G slot
+        → IsWrite env.geometry M M' (Slot slot StateWord) 2 → Worked M G M' (retiring G slot) (HasKept slot 0)
+    retire_work slot works M' within is write = record {
       made = retire env mix c slot M G whole (can_retire slot works is) M' write;
-      means = record { works = (works.0, all_retired); more = tt };
+      means = record {
+        works = (works.0, all_retired);
+        more = record {
+          within = within;
+          table = index_at G slot;
+          retiring = put-same G.slot slot (Retiring (index_at G slot));
+          before = let index : index_at G slot ≡ is.table = ap table_of_slot is.live in omega (arith, index, is.before);
+          kept = λ d none since. absurd (omega (arith, none));
+        };
+      };
     }
       where
-        all_retired : AreRetired (retired G slot) None
+        all_retired : AreRetired (retiring G slot) (Some slot)
         all_retired s τ =
-            put-all (λ k o. o ≡ Live τ → τ < G.current → None ≡ Some k) G.slot slot (Retired (index_at G slot))
-            (λ live l. absurd (cc))
-            (λ k ne live l. absurd (ne (sym (some-same slot k (works.1 k τ live l))))) s
+            put-all (λ k o. unretired o ≡ Some τ → τ < G.current → Some slot ≡ Some k) G.slot slot (Retiring (index_at G slot))
+            (λ is l. refl) (λ k ne is l. works.1 k τ is l) s
 
     -- ---- the work lock
 
@@ -512,10 +538,10 @@ module _ (env : Env) (mix : ℕ → ℕ → ℕ → ℕ) (c : ℕ) where
         let taken = take_work env mix c M M' G whole found write in
         record { made = taken.0; means = record { works = (refl, whole.slots.retired taken.1); more = tt } }
 
-    pub give_work_lock : DoesWork c G None → (M' : Memory) → LocksOnly G None None
+    pub give_work_lock : DoesWork c G None → (M' : Memory) → LocksOnly G None None → ((s : ℕ) → slot_holder (G.slot s) ≢ Some c)
         → IsWrite env.geometry M M' WorkLock 0 → Worked M G M' (with_worker G None) NoWork
-    give_work_lock works M' only write = record {
+    give_work_lock works M' only holds_none write = record {
       made = give_work env mix c M M' G whole works.0
-          (λ k entry out holds. elim (only k holds) [ inl e ↦ absurd (cc) | inr e ↦ absurd (cc) ]) works.1 write;
+          (λ k entry out holds. elim (only k holds) [ inl e ↦ absurd (cc) | inr e ↦ absurd (cc) ]) works.1 holds_none write;
       means = tt;
     }

@@ -15,14 +15,14 @@ use Rattle.rht_words.proofs.Members.{range_with_len-In}
 use Rattle.rht_arena.specs.GiveRun.{give_run_new, pages_of_give_run}
 use Rattle.rht_nest.specs.Tables.{table_pages, run_first, run_pages, pages_of_table}
 use Rattle.rht_nest.proofs.MakesStay.{table_pages-some}
-use Rattle.rht_ghost.proofs.Theory.Ghosts.{put, put-all, put_in, put_in-all, PageHeld, PageOf, SlotHeld, Live, Ghost, made_table, is_page_for}
+use Rattle.rht_ghost.proofs.Theory.Ghosts.{put, put-all, put_in, put_in-all, PageHeld, PageOf, Live, slot_holder, Ghost, made_table, is_page_for}
 use Rattle.rht_ghost.proofs.Theory.Wholes.{Whole, IsAt, at-there}
 use Rattle.rht_ghost.proofs.Theory.Knowns.{Known, MakesNothing, HasTaken, HasMade}
 use Rattle.rht_ghost.proofs.Theory.Knowledge.{IsMade}
 use Rattle.rht_ghost.proofs.Theory.Readiness.{IsAttaching}
 use Rattle.rht_ghost.proofs.Theory.TableFrames.{Knowing-retabled}
 use Rattle.rht_ghost.proofs.Theory.Steps.{Attaches, Holding, mem, SilentStep, silent, loads}
-use Rattle.rht_ghost.proofs.Moves.Slots.{slot_word-apart}
+use Rattle.rht_ghost.proofs.Moves.Slots.{table_word-apart}
 use Rattle.rht_ghost.proofs.Moves.Attaching.{is_page-for, attached_kept, attach}
 use Rattle.rht_words.proofs.FilteredLists.{range_with_len-from}
 use Rattle.rht_ghost.proofs.Pieces.RunPages.{given-range}
@@ -75,7 +75,7 @@ module _ (env : Env) (mix : ℕ → ℕ → ℕ → ℕ) (c : ℕ) where
         let M' = mem env mix (applied words op) in
         let made = knows.means.making in
         let τ = at.table in
-        let there = at-there env mix whole.tables last at in
+        let there = at-there at in
         let l : last < 8 = subst (λ s. s < 8) at.slot_is (whole.tables.each τ there).slot_in in
         let value : word_after (old_of words op) op ≡ future_of slot = ap (λ w. cond (w == 0) (future_of slot) w) found in
         let write : IsWrite env.geometry M M' (Slot (G.table τ).slot FutureWord) (future_of slot) =
@@ -94,9 +94,9 @@ module _ (env : Env) (mix : ℕ → ℕ → ℕ → ℕ) (c : ℕ) where
         (Knowing-retabled env mix M M' G (put G.table G.attached (made_table slot shape seed serial)) (G.attached + 1)
         (put G.slot slot (Live G.attached)) (put_in (is_page_for shape) (PageOf G.attached) G.page) whole
         (attached_kept env mix c slot shape seed serial τ M M' G whole ready there none write)
-        (Slot (G.table τ).slot FutureWord) (future_of slot) write (slot_word-apart G (G.table τ).slot FutureWord) c
+        (Slot (G.table τ).slot FutureWord) (future_of slot) write (table_word-apart G (G.table τ).slot FutureWord tt) c
         (holds_made slot shape) (record known { making = HasMade slot shape }) None [] MakesNothing knows
-        (put-all (λ s o. o ≡ SlotHeld c → ◌≡◌ {A = Option ℕ} None (Some s)) G.slot slot (Live G.attached)
+        (put-all (λ s o. slot_holder o ≡ Some c → ◌≡◌ {A = Option ℕ} None (Some s)) G.slot slot (Live G.attached)
         (λ e. absurd (cc)) (λ s ne held. let same = knows.only.slots s held in absurd (ne (cc))))
         (put_in-all (λ p o. o ≡ PageHeld c → In p []) (is_page_for shape) (PageOf G.attached) G.page
         (λ p there e. absurd (cc))

@@ -22,7 +22,7 @@ use Rattle.rht_arena.proofs.RunsStay.{take_run_stays}
 use Rattle.rht_nest.specs.Grow.{GrowModel, grow_new, grow_plan, grow_plan_at, grow_after_at, page_taken, page_there, page_entered, page_given, pages_of_grow, IsGrowAtIn, IsGrowIn}
 use Rattle.rht_nest.specs.declared.grow.GrowAt.{GrowAt}
 use Rattle.rht_nest.specs.declared.grow.GrowAt.TheVariants as at
-use Rattle.rht_ghost.proofs.Theory.Ghosts.{put, put-all, PageHeld, PageOf, Ghost, is_entry, entry_word, table_at}
+use Rattle.rht_ghost.proofs.Theory.Ghosts.{put, put-all, PageHeld, PageOf, IsSince, Ghost, is_entry, entry_word, table_at}
 use Rattle.rht_ghost.proofs.Theory.Ways.{IsInUse, entered_table}
 use Rattle.rht_ghost.proofs.Theory.Wholes.{place_at, Whole}
 use Rattle.rht_ghost.proofs.Theory.Entries.{entry_in, entry_nested}
@@ -86,7 +86,7 @@ module _ (env : Env) (mix : ℕ → ℕ → ℕ → ℕ) (c : ℕ) (h : Holding)
 
   -- more of the table
   knows_more : (table more : KnownTable) (pages : List ℕ) (making : KnownMaking) (M : Memory) (G : Ghost)
-      → knows_that table pages making M G → TableMeans env mix G more → knows_that more pages making M G
+      → knows_that table pages making M G → TableMeans env mix c G more → knows_that more pages making M G
   knows_more table more pages making M G knows means = record {
     only = knows.only;
     means = record {
@@ -99,9 +99,10 @@ module _ (env : Env) (mix : ℕ → ℕ → ℕ → ℕ) (c : ℕ) (h : Holding)
   }
 
   module _ (words : List ℕ) (G : Ghost) (all : length words ≡ words_in env.geometry) (whole : Whole env mix (mem env mix words) G)
-      (j : ℕ) (usable : TableMeans env mix G near → IsOpenEntry env G j)
-      (leads : (M : Memory) (G' : Ghost) (page : ℕ) → Whole env mix M G' → TableMeans env mix G' near → LeadsTo G' j page
-      → TableMeans env mix G' (behind page)) where
+      (j : ℕ) (usable : TableMeans env mix c G near → IsOpenEntry env G j)
+      (since : TableMeans env mix c G near → IsSince (G.from c) (table_at G j))
+      (leads : (M : Memory) (G' : Ghost) (page : ℕ) → Whole env mix M G' → TableMeans env mix c G' near → LeadsTo G' j page
+      → TableMeans env mix c G' (behind page)) where
     abbrev M : Memory
     M = mem env mix words
 
@@ -156,6 +157,7 @@ module _ (env : Env) (mix : ℕ → ℕ → ℕ → ℕ) (c : ℕ) (h : Holding)
           within = here.within;
           entry = here.entry;
           used = here.used;
+          since = since knows.means.table;
           among = among;
           mine = knows.means.making page (inl refl);
         } in

@@ -12,14 +12,14 @@ use Rattle.rht_words.specs.Operations.{old_of, word_after, applied}
 use Rattle.rht_words.specs.Places.{NextSerial, Slot, SlotWord, ShapeWord, SeedWord, FutureWord, SerialWord, StateWord, LoadedSection, IsSlotWord, PageMap, map_words, place_of, words_in}
 use Rattle.rht_words.proofs.Memory.{Memory, IsWrite, is_write}
 use Rattle.rht_words.specs.TableWords.{IsTableWord}
-use Rattle.rht_ghost.proofs.Theory.Ghosts.{put, put-same, put-all, put_in, put_in-all, PageOwner, PageFree, PageHeld, SlotFree, SlotHeld, Ghost, has_table, has_bit}
+use Rattle.rht_ghost.proofs.Theory.Ghosts.{put, put-same, put-all, put_in, put_in-all, PageOwner, PageFree, PageHeld, SlotFree, SlotHeld, Ghost, has_table, slot_holder, has_bit, with_pages}
 use Rattle.rht_ghost.proofs.Theory.Wholes.{Whole}
 use Rattle.rht_ghost.proofs.Theory.Readiness.{ArePagesOf}
 use Rattle.rht_ghost.proofs.Theory.Knowns.{Known, KnownSlot, KnownMaking, MakesNothing, HasPages, HasTaken}
 use Rattle.rht_ghost.proofs.Theory.Knowledge.{SlotMeans, ArePagesMine, MakingMeans, Knowing}
 use Rattle.rht_ghost.proofs.Theory.TableFrames.{TablesKept, Knowing-retabled, same_kept, none_fresh}
 use Rattle.rht_ghost.proofs.Theory.Steps.{Quiet, TakesSlot, GivesSlot, TakesPages, GivesPages, Holding, ClearsBits, SetsBits, mem, SilentStep, silent, loads}
-use Rattle.rht_ghost.proofs.Moves.Slots.{slot_word-apart, slots_kept, take_slot, give_slot, fill_slot, take_serial}
+use Rattle.rht_ghost.proofs.Moves.Slots.{state_word-apart, table_word-apart, slots_kept, take_slot, give_slot, fill_slot, take_serial}
 use Rattle.rht_ghost.proofs.Moves.Pages.{map_word-apart, pages_kept, take_pages, give_pages}
 
 -- a slot of which no word is known
@@ -63,8 +63,8 @@ module _ (env : Env) (mix : ℕ → ℕ → ℕ → ℕ) (c : ℕ) (h : Holding)
     M = mem env mix words
 
     same_tables : TablesKept env mix G G.table G.attached G.slot G.page
-    same_tables = same_kept env mix G G.table G.attached G.slot G.page (λ τ l. refl) (omega arith) (λ t is. refl)
-        (λ t has l. refl) (λ p τ is. is) (none_fresh env mix G _)
+    same_tables = same_kept env mix G G.table G.attached G.slot G.page whole.tables.current_in (λ τ l. refl) (omega arith)
+        (λ t is. refl) (λ t has l. refl) (λ p τ is. is) (λ p τ l is. is) (none_fresh env mix G _)
 
     -- a known word of the slot that stays
     known_word : (slot : KnownSlot) (M' : Memory) (w : SlotWord) (word : Option ℕ)
@@ -94,10 +94,10 @@ module _ (env : Env) (mix : ℕ → ℕ → ℕ → ℕ) (c : ℕ) (h : Holding)
         (knowing (Some s) [] (HasTaken (bare_slot s) [])) (TakesSlot s) whole taken.1 tt taken.0
         (record { within = l; taking = refl; free = found; none = refl; holds = refl })
         (Knowing-retabled env mix M M' G G.table G.attached (put G.slot s (SlotHeld c)) G.page whole
-        (slots_kept env mix s (SlotHeld c) M M' G whole l (ap has_table taken.1) refl write)
-        (Slot s StateWord) 1 write (slot_word-apart G s StateWord) c (holding None [])
+        (slots_kept env mix s (SlotHeld c) M M' G whole l (ap has_table taken.1) refl (λ d e. cc) write)
+        (Slot s StateWord) 1 write (state_word-apart G s) c (holding None [])
         (record known { making = MakesNothing }) (Some s) [] (HasTaken (bare_slot s) []) knows
-        (put-all (λ t o. o ≡ SlotHeld c → Some s ≡ Some t) G.slot s (SlotHeld c) (λ e. refl)
+        (put-all (λ t o. slot_holder o ≡ Some c → Some s ≡ Some t) G.slot s (SlotHeld c) (λ e. refl)
         (λ t ne held. let none = knows.only.slots t held in absurd (cc)))
         knows.only.pages_in
         (record {
@@ -132,13 +132,14 @@ module _ (env : Env) (mix : ℕ → ℕ → ℕ → ℕ) (c : ℕ) (h : Holding)
         let has = knows.means.making.slot.has in
         let write = is_write env.geometry words (Slot s StateWord) op all (has.within, tt) refl in
         silent env mix c words G op (holding (Some s) []) (holding None []) (knowing None [] MakesNothing)
-        (GivesSlot s) whole has.mine tt (give_slot env mix c s M M' G whole has write)
+        (GivesSlot s) whole (ap slot_holder has.mine) tt
+        (give_slot env mix c s M M' G whole has.within (ap slot_holder has.mine) write)
         (record { within = has.within; giving = refl; has = refl; empty = refl; holds = refl })
         (Knowing-retabled env mix M M' G G.table G.attached (put G.slot s SlotFree) G.page whole
-        (slots_kept env mix s SlotFree M M' G whole has.within (ap has_table has.mine) refl write)
-        (Slot s StateWord) 0 write (slot_word-apart G s StateWord) c (holding (Some s) [])
+        (slots_kept env mix s SlotFree M M' G whole has.within (ap has_table has.mine) refl (λ d e. cc) write)
+        (Slot s StateWord) 0 write (state_word-apart G s) c (holding (Some s) [])
         (record known { making = HasTaken slot [] }) None [] MakesNothing knows
-        (put-all (λ t o. o ≡ SlotHeld c → ◌≡◌ {A = Option ℕ} None (Some t)) G.slot s SlotFree (λ e. absurd (cc))
+        (put-all (λ t o. slot_holder o ≡ Some c → ◌≡◌ {A = Option ℕ} None (Some t)) G.slot s SlotFree (λ e. absurd (cc))
         (λ t ne held. let same = knows.only.slots t held in absurd (ne (cc))))
         knows.only.pages_in tt)
 
@@ -224,7 +225,7 @@ module _ (env : Env) (mix : ℕ → ℕ → ℕ → ℕ) (c : ℕ) (h : Holding)
           })));
         })
         (Knowing-retabled env mix M M' G G.table G.attached G.slot G.page whole same_tables (Slot s w) value write
-        (slot_word-apart G s w) c (holding (Some s) pages) (record known { making = HasTaken slot pages }) (Some s)
+        (table_word-apart G s w of_table) c (holding (Some s) pages) (record known { making = HasTaken slot pages }) (Some s)
         pages (HasTaken (with_slot_word slot w value) pages) knows knows.only.slots knows.only.pages_in
         (record {
           slot = slot_known slot w value M' of_table knows.means.making.slot write;
@@ -250,7 +251,13 @@ module _ (env : Env) (mix : ℕ → ℕ → ℕ → ℕ) (c : ℕ) (h : Holding)
         (take_serial env mix c value M M' G whole write)
         (record { holds = refl; leaves = inr (inr (inr refl)) })
         (Knowing-retabled env mix M M' G G.table G.attached G.slot G.page whole same_tables NextSerial value write
-        (record { nodes = λ n u e. cc; buckets = λ j plain e. cc; map = λ i e. cc; count = λ e. cc }) c
+        (record {
+          nodes = λ n u e. cc;
+          buckets = λ j plain e. cc;
+          map = λ i e. cc;
+          count = λ e. cc;
+          sections = record { own = λ k e. cc; kept = λ s k e. cc };
+        }) c
         (holding (Some slot.slot) pages) (record known { making = HasTaken slot pages }) (Some slot.slot) pages
         (HasTaken slot pages) knows knows.only.slots knows.only.pages_in
         (record {
@@ -322,7 +329,8 @@ module _ (env : Env) (mix : ℕ → ℕ → ℕ → ℕ) (c : ℕ) (h : Holding)
         (knowing (slot_for slot) after (taken_for slot after)) (TakesPages index bits) whole taken.1 tt taken.0
         (record { clears = clears; pages = more; holds = refl })
         (Knowing-retabled env mix M M' G G.table G.attached G.slot (put_in (has_bit index bits) (PageHeld c) G.page)
-        whole (pages_kept env mix index bits PageFree (PageHeld c) G taken.1 (λ τ e. cc)) (PageMap index) value write (map_word-apart G index) c
+        whole (pages_kept env mix index bits PageFree (PageHeld c) G taken.1 (λ τ e. cc) (λ τ e. cc) whole.tables.current_in)
+        (PageMap index) value write (map_word-apart G index) c
         (holding (slot_for slot) pages) (record known { making = taken_for slot pages }) (slot_for slot) after
         (taken_for slot after) knows knows.only.slots
         (put_in-all (λ p o. o ≡ PageHeld c → In p after) (has_bit index bits) (PageHeld c) G.page
@@ -335,7 +343,46 @@ module _ (env : Env) (mix : ℕ → ℕ → ℕ → ℕ) (c : ℕ) (h : Holding)
           | inr now ↦ absurd (both_ways (has_bit index bits p) there now)
         ]))))
 
-    -- and the one that sets them, which gives these pages back
+    -- And the one that sets them, which gives these pages back. Whatever the caller knew of its slot and pages, what it knows of them then
+    -- is what follows from the pages that are left, where it follows.
+    pub give_pages_so : (slot : Option ℕ) (making more : KnownMaking) (index bits : ℕ) (op : Op) (pages after : List ℕ)
+        → index < map_words env.geometry.pages
+        → ((p : ℕ) → has_bit index bits p ≡ true → p < env.geometry.pages)
+        → SetsBits env.geometry index bits op (old_of words op)
+        → ((p : ℕ) → has_bit index bits p ≡ true → In p pages)
+        → ((p : ℕ) → In p after ↔ (In p pages × (has_bit index bits p ≡ false)))
+        → ArePagesMine env mix c G pages
+        → ((value : ℕ) → IsWrite env.geometry M (mem env mix (applied words op)) (PageMap index) value
+        → ArePagesMine env mix c (with_pages G index bits PageFree) after
+        → MakingMeans env mix c (mem env mix (applied words op)) (with_pages G index bits PageFree) more)
+        → knowing slot pages making M G
+        → SilentStep env mix c words G op (holding slot pages) (holding slot after) (knowing slot after more)
+    give_pages_so slot making more index bits op pages after l among sets had less has_pages known_so knows =
+        let M' = mem env mix (applied words op) in
+        let value = word_after (old_of words op) op in
+        let same : old_of words op ≡ M (PageMap index) = ap (λ p. slice_index words p) sets.on in
+        let write : IsWrite env.geometry M M' (PageMap index) value =
+        subst (λ w. IsWrite env.geometry M M' (PageMap index) (word_after w op)) (sym same)
+        (is_write env.geometry words (PageMap index) op all l sets.on) in
+        let mine : ArePagesOf env mix G index bits (PageHeld c) =
+        record { among = among; owned = λ p there. has_pages p (had p there) } in
+        let others : (bit : ℕ) → bit < 64 → bit_at bits bit ≢ 1 → bit_at value bit ≡ bit_at (M (PageMap index)) bit =
+        λ bit k is. sets.others bit k is ∙ ap (λ w. bit_at w bit) same in
+        silent env mix c words G op (holding slot pages) (holding slot after) (knowing slot after more)
+        (GivesPages index bits) whole mine tt
+        (give_pages env mix c index bits value M M' G whole mine write sets.set others)
+        (record { sets = sets; had = had; pages = less; holds = refl })
+        (Knowing-retabled env mix M M' G G.table G.attached G.slot (put_in (has_bit index bits) PageFree G.page)
+        whole (pages_kept env mix index bits (PageHeld c) PageFree G mine (λ τ e. cc) (λ τ e. cc) whole.tables.current_in)
+        (PageMap index) value write (map_word-apart G index) c
+        (holding slot pages) (record known { making = making }) slot after more knows knows.only.slots
+        (put_in-all (λ p o. o ≡ PageHeld c → In p after) (has_bit index bits) PageFree G.page
+        (λ p there is. absurd (cc)) (λ p there is. (less p).1 (knows.only.pages_in p is, there)))
+        (known_so value write
+        (put_in-all (λ p o. In p after → o ≡ PageHeld c) (has_bit index bits) PageFree G.page
+        (λ p there i. absurd (both_ways (has_bit index bits p) ((less p).0 i).1 there))
+        (λ p there i. has_pages p ((less p).0 i).0))))
+
     pub give_pages_step : (slot : Option KnownSlot) (index bits : ℕ) (op : Op) (pages after : List ℕ)
         → index < map_words env.geometry.pages
         → ((p : ℕ) → has_bit index bits p ≡ true → p < env.geometry.pages)
@@ -346,28 +393,6 @@ module _ (env : Env) (mix : ℕ → ℕ → ℕ → ℕ) (c : ℕ) (h : Holding)
         → SilentStep env mix c words G op (holding (slot_for slot) pages) (holding (slot_for slot) after)
         (knowing (slot_for slot) after (taken_for slot after))
     give_pages_step slot index bits op pages after l among sets had less knows =
-        let M' = mem env mix (applied words op) in
-        let value = word_after (old_of words op) op in
-        let same : old_of words op ≡ M (PageMap index) = ap (λ p. slice_index words p) sets.on in
-        let write : IsWrite env.geometry M M' (PageMap index) value =
-        subst (λ w. IsWrite env.geometry M M' (PageMap index) (word_after w op)) (sym same)
-        (is_write env.geometry words (PageMap index) op all l sets.on) in
-        let has_pages = pages_mine slot pages knows.means.making in
-        let mine : ArePagesOf env mix G index bits (PageHeld c) =
-        record { among = among; owned = λ p there. has_pages p (had p there) } in
-        let others : (bit : ℕ) → bit < 64 → bit_at bits bit ≢ 1 → bit_at value bit ≡ bit_at (M (PageMap index)) bit =
-        λ bit k is. sets.others bit k is ∙ ap (λ w. bit_at w bit) same in
-        silent env mix c words G op (holding (slot_for slot) pages) (holding (slot_for slot) after)
-        (knowing (slot_for slot) after (taken_for slot after)) (GivesPages index bits) whole mine tt
-        (give_pages env mix c index bits value M M' G whole mine write sets.set others)
-        (record { sets = sets; had = had; pages = less; holds = refl })
-        (Knowing-retabled env mix M M' G G.table G.attached G.slot (put_in (has_bit index bits) PageFree G.page)
-        whole (pages_kept env mix index bits (PageHeld c) PageFree G mine (λ τ e. cc)) (PageMap index) value write (map_word-apart G index) c
-        (holding (slot_for slot) pages) (record known { making = taken_for slot pages }) (slot_for slot) after
-        (taken_for slot after) knows knows.only.slots
-        (put_in-all (λ p o. o ≡ PageHeld c → In p after) (has_bit index bits) PageFree G.page
-        (λ p there is. absurd (cc)) (λ p there is. (less p).1 (knows.only.pages_in p is, there)))
-        (pages_known slot pages after M' index value write knows.means.making (put_in (has_bit index bits) PageFree G.page)
-        (put_in-all (λ p o. In p after → o ≡ PageHeld c) (has_bit index bits) PageFree G.page
-        (λ p there i. absurd (both_ways (has_bit index bits p) ((less p).0 i).1 there))
-        (λ p there i. has_pages p ((less p).0 i).0))))
+        give_pages_so (slot_for slot) (taken_for slot pages) (taken_for slot after) index bits op pages after l among sets had less
+        (pages_mine slot pages knows.means.making)
+        (λ value write mine. pages_known slot pages after _ index value write knows.means.making _ mine) knows

@@ -1,6 +1,6 @@
 -- The store by which a caller puts its own node in front of the list to which a port is bound: the node
 -- comes into the place of the list's first one in the chain, and that one is behind it from then on.
-use Rattle.std.proofs.Common.{◌≡◌, ◌≢◌, ◌⊎◌, ℕ, List, [], ◌∷◌, ◌++◌, Option, Some, None, false, refl, sym, ◌∙◌, ap, subst, inl, inr, arith}
+use Rattle.std.proofs.Common.{◌≡◌, ◌≢◌, ◌⊎◌, ℕ, List, [], ◌∷◌, ◌++◌, Option, Some, None, false, refl, sym, ◌∙◌, ap, subst, inl, inr, arith, true}
 use Rattle.rht_words.specs.declared.env.Env.{Env}
 use Rattle.rht_words.specs.declared.config.Kind.TheVariants.{Single, Listed}
 use Rattle.rht_words.specs.Links.{link_of}
@@ -112,8 +112,8 @@ module _ (env : Env) (mix : ℕ → ℕ → ℕ → ℕ) (c port place word firs
   -- ---- what the caller has behind it
 
   -- its node is a port's from then on, and without a node before the bucket is unlocked
-  pub front_only : HasOnly env mix c G (Some n) (Some place) None false None [] false
-      → HasOnly env mix c fronted None (lock_left place before) None false None [] false
+  pub front_only : HasOnly env mix c G (Some n) (Some place) None false None [] false true
+      → HasOnly env mix c fronted None (lock_left place before) None false None [] false true
   front_only only = record {
     nodes = put-all (λ m o. o ≡ NodeHeld c → ◌≡◌ {A = Option ℕ} None (Some m)) (put G.node first (Behind port))
         n (First j) (λ e. absurd (cc))
@@ -130,6 +130,7 @@ module _ (env : Env) (mix : ℕ → ℕ → ℕ → ℕ) (c port place word firs
     slots = only.slots;
     pages_in = only.pages_in;
     works = only.works;
+    reads = only.reads;
   }
     where
       IsLeft : Option ℕ → ℕ → Type 0

@@ -1,7 +1,7 @@
 -- The operations on the way to a port's bucket: the current table, a table's shape and seed, and its future; and in a nested table the
 -- future once more, before the entries. Where that leads to no table, what follows if the bucket is missing is known early: the port is bound
 -- nowhere then, unless the bucket is there.
-use Rattle.std.proofs.Common.{◌≡◌, ℕ, ◌+◌, ◌<◌, List, [], Option, Some, None, cond, refl, sym, ◌∙◌, ap, subst, inr, arith}
+use Rattle.std.proofs.Common.{◌≡◌, ℕ, ◌+◌, List, [], Option, Some, None, cond, refl, sym, ◌∙◌, ap, subst, inr, arith, true}
 use Rattle.std.specs.Option.{option_map}
 use Rattle.rht_words.specs.declared.env.Env.{Env}
 use Rattle.rht_words.specs.declared.geometry.Geometry.{Geometry}
@@ -28,10 +28,10 @@ use Rattle.rht_nest.specs.declared.locate.LocatedBucket.{LocatedBucket}
 use Rattle.rht_nest.specs.declared.locate.LocatedBucket.TheVariants as buckets
 use Rattle.rht_nest.specs.Early.{early_of_locate}
 use Rattle.rht_ghost.proofs.Theory.Ghosts.{Ghost, none-some}
-use Rattle.rht_ghost.proofs.Theory.Wholes.{Whole, IsAt, home, place_at, word_index, current-there, at-there, one_table}
+use Rattle.rht_ghost.proofs.Theory.Wholes.{Whole, IsAt, home, place_at, word_index, current-there, current-at, at-there, one_table}
 use Rattle.rht_ghost.proofs.Theory.Passed.{passed_first, unbound_at_last, unbound_missing, go_on, go_beyond}
 use Rattle.rht_ghost.proofs.Theory.Knowns.{KnownNode, KnownTable, Passes, Shaped, OnWay, AtHome, KnownBucket, knows_plain}
-use Rattle.rht_ghost.proofs.Theory.Knowledge.{plainly, TableMeans, IsPassing, next_at, IsOnWay, IsAtHome, IsMissed, Knowing}
+use Rattle.rht_ghost.proofs.Theory.Knowledge.{ReadsFrom, since-current, since-later, plainly, TableMeans, IsPassing, next_at, IsOnWay, IsAtHome, IsMissed, Knowing}
 use Rattle.rht_ghost.proofs.Theory.WaysRead.{IsPlaced, words_of_pages, read_by_entry, on_way_read, on_way_next, at_home}
 use Rattle.rht_ghost.proofs.Theory.Answering.{IsLegalOn, KnowsEarly, none_early, foresees, stays_early}
 use Rattle.rht_ghost.proofs.Pieces.TableLoads.{LeadsBehind, future_leads, shape_word, way_begins, flat_home, way_missing, way_home}
@@ -72,19 +72,20 @@ module _ (env : Env) (mix : ℕ → ℕ → ℕ → ℕ) (c : ℕ) (h : Holding)
     M = mem env mix words
 
     -- the same with something else known of the table
-    with_table : (table more : KnownTable) → knowing table M G → TableMeans env mix G more → knowing more M G
+    with_table : (table more : KnownTable) → knowing table M G → TableMeans env mix c G more → knowing more M G
     with_table table more knows means = plainly env mix knows.only knows.means.node means knows.means.bucket
 
     -- the slot of the current table has a table, and nothing was passed there
-    pub first_passed : (port : ℕ) → IsPassing env mix G port (table_of (M CurrentTable))
-    first_passed port =
+    pub first_passed : ReadsFrom true (G.from c) G.current → (port : ℕ) → IsPassing env mix c G port (table_of (M CurrentTable))
+    first_passed reads port =
         let there = current-there env mix whole.tables in
         let right = whole.tables.each G.current there in
         let slot = (G.table G.current).slot in
         let is : table_of (M CurrentTable) ≡ slot = (let word = whole.tables.current_is in omega
         (arith, right.slot_in, word)) in
         rw is (record {
-          at = record { table = G.current; attached = whole.tables.current_in; slot_is = refl };
+          at = current-at env mix whole.tables slot refl;
+          since = since-current (G.from c) G.current reads;
           passed = passed_first env mix M G whole port;
         })
 
@@ -101,7 +102,7 @@ module _ (env : Env) (mix : ℕ → ℕ → ℕ → ℕ) (c : ℕ) (h : Holding)
     -- table behind it, and the port has been passed there too.
     abbrev pub FutureIs : ℕ → Option ℕ → Type 0
     FutureIs port None = G.bound port ≡ []
-    FutureIs port (Some next) = IsPassing env mix G port next
+    FutureIs port (Some next) = IsPassing env mix c G port next
 
     pub future_is : (port slot place word : ℕ) (shape : Option ℕ)
         → Knowing env mix c h (knows_plain node (AtHome port slot shape place) bucket) M G
@@ -110,7 +111,7 @@ module _ (env : Env) (mix : ℕ → ℕ → ℕ → ℕ) (c : ℕ) (h : Holding)
     future_is port slot place word shape knows missed =
         go (slot_of (M (Slot slot FutureWord))) (behind-table slot home_is.passing.at)
       where
-        home_is : IsAtHome env mix G port slot shape place
+        home_is : IsAtHome env mix c G port slot shape place
         home_is = knows.means.table
 
         τ : ℕ
@@ -121,7 +122,8 @@ module _ (env : Env) (mix : ℕ → ℕ → ℕ → ℕ) (c : ℕ) (h : Holding)
             unbound_at_last env mix M G whole port τ (word_index env mix place) home_is.passing.passed home_is.here missed.none
             missed.lock.still last
         go (Some next) behind = record {
-          at = next_at env mix G τ next behind;
+          at = next_at env mix G τ next home_is.passing.at.on behind;
+          since = since-later (G.from c) τ (τ + 1) (omega arith) home_is.passing.since;
           passed = go_on env mix M G whole port τ (word_index env mix place) home_is.passing.passed home_is.here
               missed.none missed.lock.still missed.lock.unarmed behind.attached;
         }
@@ -153,7 +155,8 @@ module _ (env : Env) (mix : ℕ → ℕ → ℕ → ℕ) (c : ℕ) (h : Holding)
         let passing = on.shaped.passing in
         let τ = passing.at.table in
         with_table (OnWay port slot shape place (Some next)) (Passes port next) knows (record {
-          at = next_at env mix G τ next on.behind;
+          at = next_at env mix G τ next passing.at.on on.behind;
+          since = since-later (G.from c) τ (τ + 1) (omega arith) passing.since;
           passed = go_beyond env mix M G whole port τ passing.passed
               (way_missing env mix M G whole port slot passing.at place same on.to (leads place None same is)) on.behind.attached;
         })
@@ -168,7 +171,7 @@ module _ (env : Env) (mix : ℕ → ℕ → ℕ → ℕ) (c : ℕ) (h : Holding)
         with_table (OnWay port m.table shape place early) (OnWay port m.table shape next early) knows (record {
           shaped = on.shaped;
           to = on_way_next env mix M G whole port on.shaped.passing.at.table
-              (at-there env mix whole.tables m.table on.shaped.passing.at) place on.to next page
+              (at-there on.shaped.passing.at) place on.to next page
               (leads place (Some page) same is) e;
           behind = on.behind;
         })
@@ -313,7 +316,7 @@ module _ (env : Env) (mix : ℕ → ℕ → ℕ → ℕ) (c : ℕ) (h : Holding)
           (early_of_locate absent at) (early_of_locate absent next) none
 
       -- at the load of a future that leads to no table the port is bound nowhere, or its bucket is there
-      foresees_now : (slot shape : ℕ) (place : PlaceModel) (on : IsOnWay env mix G port slot shape place None)
+      foresees_now : (slot shape : ℕ) (place : PlaceModel) (on : IsOnWay env mix c G port slot shape place None)
           → (future : Option ℕ) → Leads on.shaped.passing.at.table future
           → KnowsFrom slot (locates.Early shape place) slot (locates.Entry shape future place) words
       foresees_now slot shape place on (Some next) behind =
@@ -324,7 +327,7 @@ module _ (env : Env) (mix : ℕ → ℕ → ℕ → ℕ) (c : ℕ) (h : Holding)
           at = on.shaped.passing.at
 
           read : read_place (words_of_pages M) place ≡ option_map (place_at env mix) (home env mix G port at.table)
-          read = on_way_read env mix M G whole port at.table (at-there env mix whole.tables slot at) place on.to
+          read = on_way_read env mix M G whole port at.table (at-there at) place on.to
 
           go : (word : Option ℕ) → home env mix G port at.table ≡ word
               → KnowsFrom slot (locates.Early shape place) slot (locates.Entry shape None place) words
@@ -336,16 +339,16 @@ module _ (env : Env) (mix : ℕ → ℕ → ℕ → ℕ) (c : ℕ) (h : Holding)
 
       -- an entry that leads to another one leads where the bucket is, or isn't
       stays_now : (slot shape : ℕ) (early : Option ℕ) (place next : PlaceModel)
-          → (on : IsOnWay env mix G port slot shape place early) → (further : IsOnWay env mix G port slot shape next early)
+          → (on : IsOnWay env mix c G port slot shape place early) → (further : IsOnWay env mix c G port slot shape next early)
           → further.shaped.passing.at.table ≡ on.shaped.passing.at.table
           → KnowsFrom slot (locates.Entry shape early place) slot (locates.Entry shape early next) words
       stays_now slot shape None place next on further same =
           let here = on.shaped.passing.at in
           let there = further.shaped.passing.at in
           stays_early env.config.kind c call (IsPlaced M place) (IsPlaced M next) now (Some absent)
-          (λ placed none. placed (on_way_read env mix M G whole port here.table (at-there env mix whole.tables slot here) place on.to
+          (λ placed none. placed (on_way_read env mix M G whole port here.table (at-there here) place on.to
           ∙ ap (λ τ. option_map (place_at env mix) (home env mix G port τ)) (sym same)
-          ∙ sym (on_way_read env mix M G whole port there.table (at-there env mix whole.tables slot there) next further.to) ∙ none))
+          ∙ sym (on_way_read env mix M G whole port there.table (at-there there) next further.to) ∙ none))
       stays_now slot shape (Some early) place next on further same =
           says_none slot (locates.Entry shape (Some early) place) (locates.Entry shape (Some early) next) words
           refl
@@ -369,7 +372,7 @@ module _ (env : Env) (mix : ℕ → ℕ → ℕ → ℕ) (c : ℕ) (h : Holding)
       entered_says m shape early place page same knows is (starts.Running next) e =
           let further = entered_knows port m shape early place page same knows is (starts.Running next) e in
           stays_now m.table shape early place next knows.means.table further.means.table
-          (one_table env mix whole.tables m.table knows.means.table.shaped.passing.at further.means.table.shaped.passing.at)
+          (one_table knows.means.table.shaped.passing.at further.means.table.shaped.passing.at)
       entered_says m shape early place page same knows is (starts.Done there) e = tt
 
       entry_says : (m : LocateModel) (shape : ℕ) (early : Option ℕ) (place : PlaceModel)

@@ -59,8 +59,9 @@ module _ (env : Env) (mix : ℕ → ℕ → ℕ → ℕ) (c : ℕ) (h : Holding)
           slots = knows.only.slots;
           pages_in = knows.only.pages_in;
           works = knows.only.works;
+          reads = knows.only.reads;
         }) (NodeMeans-stay env mix c M M' G G' (λ n has. has.mine)
-        (λ n has w. write.others (Node n w) has.among (λ e. cc)) node knows.means.node) (TableMeans-stay env mix c M M' G G'
+        (λ n has w. write.others (Node n w) has.among (λ e. cc)) node knows.means.node) (TableMeans-stay env mix c M M' G G' refl
         (tables_stay env mix M G G' whole same.tables (chains_passes env mix M G G' whole same))
         table knows.means.table) means
 

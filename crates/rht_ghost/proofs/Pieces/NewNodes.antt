@@ -119,9 +119,9 @@ module _ (env : Env) (mix : ℕ → ℕ → ℕ → ℕ) (c : ℕ) (h : Holding)
         (chains_passes env mix M G (with_owner G n owner) whole same)
 
     tables-reowned : (n : ℕ) (owner : Owner) → is_used (G.node n) ≡ false → is_used owner ≡ false
-        → TableMeans env mix G table → TableMeans env mix (with_owner G n owner) table
+        → TableMeans env mix c G table → TableMeans env mix c (with_owner G n owner) table
     tables-reowned n owner was now means =
-        TableMeans-stay env mix c M M G (with_owner G n owner) (stays-reowned n owner was now) table means
+        TableMeans-stay env mix c M M G (with_owner G n owner) refl (stays-reowned n owner was now) table means
 
     -- and where none has
     stays-same : TablesStay env mix G G
@@ -232,6 +232,7 @@ module _ (env : Env) (mix : ℕ → ℕ → ℕ → ℕ) (c : ℕ) (h : Holding)
           slots = knows.only.slots;
           pages_in = knows.only.pages_in;
           works = knows.only.works;
+          reads = knows.only.reads;
         }) (record {
           has = record { mine = put-same G.node n (NodeHeld c); among = range.below };
           chain = tt;
@@ -340,6 +341,7 @@ module _ (env : Env) (mix : ℕ → ℕ → ℕ → ℕ) (c : ℕ) (h : Holding)
           slots = knows.only.slots;
           pages_in = knows.only.pages_in;
           works = knows.only.works;
+          reads = knows.only.reads;
         }) tt (tables-reowned n Free (ap is_used has.mine) refl knows.means.table) (BucketMeans-stay env mix c M M' G (with_owner G n Free)
         (members_used env mix M G whole) (λ j holds. refl) (λ j m h i. refl)
         (chains_stay env mix c M M' G (NodeMap (n / 64))

@@ -13,7 +13,7 @@ use Rattle.rht_nest.specs.Tables.{is_nested}
 use Rattle.rht_nest.specs.Place.{PlaceModel, nested_place, picked, entered}
 use Rattle.rht_nest.specs.declared.grow.GrowAt.{GrowAt}
 use Rattle.rht_nest.specs.declared.grow.GrowAt.TheVariants as grows
-use Rattle.rht_ghost.proofs.Theory.Ghosts.{Part, Middle, Top, has_entries, PageOf, Ghost, is_entry_of, entry_word, table_of_page, table_at}
+use Rattle.rht_ghost.proofs.Theory.Ghosts.{Part, Middle, Top, has_entries, PageOf, IsSince, Ghost, is_entry_of, entry_word, table_of_page, table_at}
 use Rattle.rht_ghost.proofs.Theory.Wholes.{hash_in, IsNested, PlacedRight, Whole, IsThere, at-there}
 use Rattle.rht_ghost.proofs.Theory.Ways.{first_page, entries_in, IsInUse}
 use Rattle.rht_ghost.proofs.Theory.Entries.{few_entries, some_entries, page_within, entry_in, entry_nested}
@@ -117,27 +117,31 @@ module _ (env : Env) (mix : ℕ → ℕ → ℕ → ℕ) (M : Memory) (G : Ghost
       ap (page_of env.geometry.pages) (whole.entries j here.within here.entry ∙ ap entry_word leads)
       ∙ entries_come_back.entry_names env.geometry.pages page within
 
-  module _ (port slot shape : ℕ) (place : PlaceModel) (on : IsOnWay env mix G port slot shape place None) where
+  module _ {c : ℕ} (port slot shape : ℕ) (place : PlaceModel) (on : IsOnWay env mix c G port slot shape place None) where
     -- the entry at which the way stands is in use
     pub open_in_table : IsOpenIn env G on.shaped.passing.at.table place.entry
     open_in_table =
         let at = on.shaped.passing.at in
-        way_open at.table (hash_in env mix G port at.table) (at-there env mix whole.tables slot at) on.to.nested place on.to.way
+        way_open at.table (hash_in env mix G port at.table) (at-there at) on.to.nested place on.to.way
 
     pub open_on_way : IsOpenEntry env G place.entry
     open_on_way = open_in_table.open_is
+
+    -- in a table to which the caller's section comes
+    pub since_on_way : IsSince (G.from c) (table_at G place.entry)
+    since_on_way = subst (IsSince (G.from c)) (sym open_in_table.table) on.shaped.passing.since
 
     module _ (same : place.geometry ≡ env.geometry) (page : ℕ) (leads : LeadsTo G place.entry page) where
       entry_is : page_of env.geometry.pages (M (PageWord place.entry)) ≡ Some page
       entry_is = led place.entry page open_on_way leads
 
       entered_so : (start : Start PlaceModel ℕ) → entered place page ≡ start
-          → TableMeans env mix G (known_entered port slot shape start)
+          → TableMeans env mix c G (known_entered port slot shape start)
       entered_so (starts.Running next) e =
           record {
             shaped = on.shaped;
             to = on_way_next env mix M G whole port on.shaped.passing.at.table
-                (at-there env mix whole.tables slot on.shaped.passing.at) place on.to next page entry_is e;
+                (at-there on.shaped.passing.at) place on.to next page entry_is e;
             behind = tt;
           }
       entered_so (starts.Done there) e =
@@ -145,5 +149,5 @@ module _ (env : Env) (mix : ℕ → ℕ → ℕ → ℕ) (M : Memory) (G : Ghost
           (way_home env mix M G whole port slot on.shaped.passing.at place same on.to page there entry_is e)
 
       -- and behind the page the way goes on
-      pub entered_on_way : TableMeans env mix G (known_entered port slot shape (entered place page))
+      pub entered_on_way : TableMeans env mix c G (known_entered port slot shape (entered place page))
       entered_on_way = entered_so (entered place page) refl

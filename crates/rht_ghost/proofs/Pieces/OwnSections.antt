@@ -1,20 +1,23 @@
--- A caller opens its read section before it reads a table, and closes it once it has done so: it then knows what it knew before.
-use Rattle.std.proofs.Common.{◌≡◌, ℕ, ◌+◌, ◌%◌, ◌^◌, ◌<◌, List, length, Bool, true, false, refl, arith}
+-- A caller opens its read section before it knows anything of a table, and closes it once it does so no more: it then knows what it knew
+-- before, and in its section it may come to the tables from the current one on.
+use Rattle.std.proofs.Common.{◌≡◌, ◌≢◌, ℕ, ◌+◌, ◌%◌, ◌^◌, ◌<◌, List, length, Option, Some, None, Bool, true, false, refl, sym, subst, inl, inr, arith}
 use Rattle.rht_words.specs.declared.env.Env.{Env}
 use Rattle.rht_words.specs.declared.op.Op.{Op}
 use Rattle.rht_words.specs.declared.op.Op.TheVariants.{Add}
 use Rattle.rht_words.specs.Operations.{applied}
 use Rattle.rht_words.specs.Places.{Section, place_of, words_in}
 use Rattle.rht_words.proofs.Memory.{Memory, IsWrite, is_write}
-use Rattle.rht_ghost.proofs.Theory.Ghosts.{Ghost}
-use Rattle.rht_ghost.proofs.Theory.Wholes.{Whole}
-use Rattle.rht_ghost.proofs.Theory.Knowns.{Known}
-use Rattle.rht_ghost.proofs.Theory.Knowledge.{Knowing}
-use Rattle.rht_ghost.proofs.Theory.KnowledgeKept.{Knowing-rely}
+use Rattle.rht_ghost.proofs.Theory.Ghosts.{Ghost, IsSince, put-same, table_at, with_from, none-some}
+use Rattle.rht_ghost.proofs.Theory.Wholes.{IsTurned, Whole}
+use Rattle.rht_ghost.proofs.Theory.Knowns.{Known, Nowhere}
+use Rattle.rht_ghost.proofs.Theory.Knowledge.{Knowing, ReadsFrom, outside-none, inside-some, TableMeans}
+use Rattle.rht_ghost.proofs.Theory.KnowledgeKept.{Means-rely, Only-rely}
 use Rattle.rht_ghost.proofs.Theory.Steps.{Opens, Closes, Holding, mem, SilentStep, silent}
-use Rattle.rht_ghost.proofs.Moves.Sections.{turn_section, turn_own}
+use Rattle.rht_ghost.proofs.Moves.Sections.{IsTurn, turn_section, turn_rely}
+use Rattle.rht_ghost.proofs.Theory.Reliance.{Rely}
+use Rattle.rht_ghost.proofs.Theory.Frames.{Made}
 
-module _ (env : Env) (mix : ℕ → ℕ → ℕ → ℕ) (c : ℕ) (h : Holding) (known : Known) where
+module _ (env : Env) (mix : ℕ → ℕ → ℕ → ℕ) (c : ℕ) (h : Holding) (known : Known) (nowhere : known.table ≡ Nowhere) where
   -- what the call holds in its section, or out of it, and what the caller knows then
   abbrev pub holding : Bool → Holding
   holding section = record h { section = section }
@@ -37,26 +40,76 @@ module _ (env : Env) (mix : ℕ → ℕ → ℕ → ℕ) (c : ℕ) (h : Holding)
     within : c < 16
     within = let callers = env.geometry.within.callers_within in omega (arith, low, callers.1)
 
-    write : IsWrite env.geometry M M' (Section c) ((M (Section c) + 1) % 2 ^ 64)
+    abbrev value : ℕ
+    value = (M (Section c) + 1) % 2 ^ 64
+
+    write : IsWrite env.geometry M M' (Section c) value
     write = is_write env.geometry words (Section c) turning all within refl
 
     -- what it knew it still knows, in its section and out of it
-    known_then : (was now : Bool) → knowing was M G → knowing now M' G
-    known_then was now knows =
-        let then = Knowing-rely env mix c M M' G G (holding was) known whole
-        (turn_own env mix c ((M (Section c) + 1) % 2 ^ 64) M M' G whole write) knows in
-        record { only = then.only; means = then.means }
+    module _ (was now : Bool) (from : Option ℕ) (reads : ReadsFrom now from G.current)
+        (is : IsTurn env mix c value from M M' G) where
+      abbrev G' : Ghost
+      G' = with_from G c from
+
+      turned : Made env mix c M G M' G'
+      turned = turn_section env mix c value from M M' G whole write is
+
+      rely : Rely env mix c M G M' G'
+      rely = turn_rely env mix c value from M M' G whole write is c
+
+      reads_then : ReadsFrom now (G'.from c) G'.current
+      reads_then = subst (λ f. ReadsFrom now f G.current) (sym (put-same G.from c from)) reads
+
+      known_then : knowing was M G → knowing now M' G'
+      known_then knows = record {
+        only = Only-rely env mix c M M' G G' whole rely h.node h.lock h.second h.raised h.slot h.pages h.worker was now reads_then
+            knows.only;
+        means = Means-rely env mix c M M' G G' whole rely known (subst (TableMeans env mix c G') (sym nowhere) tt) knows.means;
+      }
+
+    -- the word of a section that isn't open is even, and of one that is odd
+    opened : G.from c ≡ None → IsTurn env mix c value (Some G.current) M M' G
+    opened none = record {
+      caller = low;
+      turned = let even = subst (λ f. IsTurned env mix f (M (Section c))) none (whole.sections.words c within) in
+          omega (arith, even);
+      later = λ τ since. since;
+      locked = λ j holds. absurd (subst (λ f. IsSince f (table_at G j)) none (whole.sections.locked j c holds));
+    }
+
+    closed : (first : ℕ) → G.from c ≡ Some first → ((j : ℕ) → (G.bucket j).holder ≢ Some c)
+        → IsTurn env mix c value None M M' G
+    closed first is none = record {
+      caller = low;
+      turned = let odd = subst (λ f. IsTurned env mix f (M (Section c))) is (whole.sections.words c within) in
+          omega (arith, odd);
+      later = λ τ since. absurd since;
+      locked = λ j holds. absurd (none j holds);
+    }
 
     pub open_step : knowing false M G
         → SilentStep env mix c words G turning (holding false) (holding true) (knowing true)
     open_step knows =
-        silent env mix c words G turning (holding false) (holding true) (knowing true) (Opens c) whole refl tt
-        (turn_section env mix c ((M (Section c) + 1) % 2 ^ 64) M M' G whole write)
-        (record { within = within; turns = refl; outside = refl; holds = refl }) (known_then false true knows)
+        let none = outside-none (G.from c) G.current knows.only.reads in
+        let is = opened none in
+        silent env mix c words G turning (holding false) (holding true) (knowing true) (Opens c) whole
+        (refl, none) tt (turned false true (Some G.current) (omega arith) is)
+        (record { within = within; turns = refl; outside = refl; holds = refl })
+        (known_then false true (Some G.current) (omega arith) is knows)
 
-    pub close_step : knowing true M G
+    -- it has locked no bucket when it closes it
+    pub close_step : h.lock ≡ None → h.second ≡ None → knowing true M G
         → SilentStep env mix c words G turning (holding true) (holding false) (knowing false)
-    close_step knows =
+    close_step no_lock no_second knows =
+        let first = inside-some (G.from c) G.current knows.only.reads in
+        let is = closed first.0 first.1 unlocked in
         silent env mix c words G turning (holding true) (holding false) (knowing false) (Closes c) whole refl tt
-        (turn_section env mix c ((M (Section c) + 1) % 2 ^ 64) M M' G whole write)
-        (record { within = within; turns = refl; inside = refl; holds = refl }) (known_then true false knows)
+        (turned true false None tt is)
+        (record { within = within; turns = refl; inside = refl; holds = refl }) (known_then true false None tt is knows)
+      where
+        unlocked : (j : ℕ) → (G.bucket j).holder ≢ Some c
+        unlocked j holds = elim (knows.only.locks j holds) [
+          | inl first ↦ none-some no_lock first
+          | inr second ↦ none-some no_second second
+        ]

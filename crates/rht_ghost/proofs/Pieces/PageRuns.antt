@@ -13,7 +13,7 @@ use Rattle.rht_words.specs.declared.machine.Next.{Next}
 use Rattle.rht_words.specs.declared.machine.Next.TheVariants.{Go, Done}
 use Rattle.rht_words.specs.Members.{In}
 use Rattle.rht_words.specs.Operations.{old_of}
-use Rattle.rht_words.specs.Places.{PageMap, place_of, words_in}
+use Rattle.rht_words.specs.Places.{PageMap, map_words, place_of, words_in}
 use Rattle.rht_words.proofs.Memory.{Memory}
 use Rattle.rht_arena.specs.PageRuns.{run_bits, IsRunIn, IsRunWord}
 use Rattle.rht_arena.specs.TakeRun.{TakeRunModel, take_run_plan, take_run_after, looked, has_run, pages_of_take_run, IsRunAt, IsTakeRunAtIn, IsTakeRunIn}
@@ -24,7 +24,7 @@ use Rattle.rht_arena.proofs.RunBits.{run_bits-fits, bit_at-run, bit_at-run_from,
 use Rattle.rht_ghost.proofs.Theory.Ghosts.{Ghost, has_bit}
 use Rattle.rht_ghost.proofs.Theory.Wholes.{Whole}
 use Rattle.rht_ghost.proofs.Theory.Knowns.{Known, KnownSlot}
-use Rattle.rht_ghost.proofs.Theory.Steps.{Holding, mem, SilentStep, loads}
+use Rattle.rht_ghost.proofs.Theory.Steps.{Holding, SetsBits, mem, SilentStep, loads}
 use Rattle.rht_ghost.proofs.Moves.Pages.{has_bit-is, is_has_bit}
 use Rattle.rht_words.proofs.FilteredLists.{false_from, filter-In, In-filter, below-In, In-below}
 use Rattle.rht_ghost.proofs.Pieces.RunPages.{pages_behind, given_below-pages, cleared-more, given-had, given-less, found_within, given_within}
@@ -170,7 +170,7 @@ module _ (env : Env) (mix : ℕ → ℕ → ℕ → ℕ) (c : ℕ) (h : Holding)
       (holds_pages slot (given_behind r)) (knows_pages slot (given_behind r))
 
   -- a page that is still to be given back, and the other way round
-  yet-is : (m : GiveRunModel) (p : ℕ) → In p (pages_of_give_run m)
+  pub yet-is : (m : GiveRunModel) (p : ℕ) → In p (pages_of_give_run m)
       → (p < m.geometry.pages) × (64 * m.index ≤ p) × (m.first ≤ p) × (p < m.first + m.pages)
   yet-is m p i =
       let member = filter-In (has_yet m) p (range_with_len 0 m.geometry.pages) i in
@@ -182,7 +182,7 @@ module _ (env : Env) (mix : ℕ → ℕ → ℕ → ℕ) (c : ℕ) (h : Holding)
         ltb-true p (m.first + m.pages) range.1,
       )
 
-  is-yet : (m : GiveRunModel) (p : ℕ) → p < m.geometry.pages → 64 * m.index ≤ p → m.first ≤ p
+  pub is-yet : (m : GiveRunModel) (p : ℕ) → p < m.geometry.pages → 64 * m.index ≤ p → m.first ≤ p
       → p < m.first + m.pages → In p (pages_of_give_run m)
   is-yet m p l word from until =
       In-filter (has_yet m) p (range_with_len 0 m.geometry.pages)
@@ -192,6 +192,82 @@ module _ (env : Env) (mix : ℕ → ℕ → ℕ → ℕ) (c : ℕ) (h : Holding)
       (and_from (nat_le m.first p) (nat_lt p (m.first + m.pages)) (le-leb m.first p from)
       (lt-ltb p (m.first + m.pages) until)))
 
+  -- what an operation of a giving back in this table does to bits and pages
+  module _ (first pages index : ℕ) (run_in : IsRunIn env.geometry first pages) (in_word : IsRunWord first pages index) where
+    abbrev pub giving : GiveRunModel
+    giving = record { geometry = env.geometry; first = first; pages = pages; index = index }
+
+    abbrev pub run_of_word : ℕ
+    run_of_word = run_bits first pages index
+
+    abbrev word_of_map : ℕ
+    word_of_map = old_of words (give_run_plan giving)
+
+    -- a page of the run in this word, and the other way round
+    pub bit_in : (p : ℕ) → has_bit index run_of_word p ≡ true → (p / 64 ≡ index) × (first ≤ p) × (p < first + pages)
+    bit_in p there =
+        let bit = has_bit-is index run_of_word p there in
+        let low = bit_at-run_from first pages index (p % 64) (omega arith) bit.1 in
+        let high = bit_at-run_until first pages index (p % 64) (omega arith) bit.1 in
+        (bit.0, omega (arith, low, bit.0), omega (arith, high, bit.0))
+
+    is_bit : (p : ℕ) → p / 64 ≡ index → first ≤ p → p < first + pages → has_bit index run_of_word p ≡ true
+    is_bit p here low high =
+        is_has_bit index run_of_word p here (bit_at-run first pages index (p % 64) (omega arith)
+        (omega (arith, low, here)) (omega (arith, high, here)))
+
+    pub word_within : index < map_words env.geometry.pages
+    word_within = let within = run_in.within in let until = in_word.until in omega (arith, within, until)
+
+    pub run_among : (p : ℕ) → has_bit index run_of_word p ≡ true → p < env.geometry.pages
+    run_among p there = let is = bit_in p there in let within = run_in.within in omega (arith, is.2, within)
+
+    pub sets_run : SetsBits env.geometry index run_of_word (give_run_plan giving) word_of_map
+    sets_run = record {
+      on = refl;
+      set = λ bit low is. omega (arith, is, bit_at_or word_of_map run_of_word bit, bit_at-lt word_of_map bit);
+      others = λ bit low is. omega (
+        arith,
+        is,
+        bit_at_or word_of_map run_of_word bit,
+        bit_at-lt word_of_map bit,
+        bit_at-lt run_of_word bit,
+      );
+    }
+
+    pub run_had : (p : ℕ) → has_bit index run_of_word p ≡ true → In p (pages_of_give_run giving)
+    run_had p there =
+        let is = bit_in p there in
+        is-yet giving p (run_among p there) (omega (arith, is.0)) is.1 is.2
+
+    pub run_less : (p : ℕ) → In p (given_behind (give_run_after giving word_of_map))
+        ↔ (In p (pages_of_give_run giving) × (has_bit index run_of_word p ≡ false))
+    run_less p =
+        cond_both {A = GiveRunModel × Next (Unit {0})} (nat_lt (64 * (index + 1)) (first + pages)) _ _
+        (λ r. In p (given_behind r) ↔ (In p (pages_of_give_run giving) × (has_bit index run_of_word p ≡ false)))
+        (λ t.
+        let next : GiveRunModel = record giving { index = index + 1 } in (
+          λ i.
+              let is = yet-is next p i in (
+                is-yet giving p is.0 (omega (arith, is.1)) is.2 is.3,
+                false_from (has_bit index run_of_word p) (λ there. let bit = bit_in p there in omega (arith, bit.0, is.1)),
+              ),
+          λ both.
+              let is = yet-is giving p both.0 in
+              is-yet next p is.0 (elim (cases_lt p (64 * (index + 1))) [
+                | inl here ↦ absurd (both_ways (has_bit index run_of_word p) both.1
+                    (is_bit p (omega (arith, here, is.1)) is.2 is.3))
+                | inr later ↦ later
+              ]) is.2 is.3,
+        ))
+        (λ f.
+        let last : first + pages ≤ 64 * (index + 1) = ltb-false (64 * (index + 1)) (first + pages) f in (
+          λ i. absurd i,
+          λ both.
+              let is = yet-is giving p both.0 in
+              absurd (both_ways (has_bit index run_of_word p) both.1 (is_bit p (omega (arith, is.1, is.3, last)) is.2 is.3)),
+        ))
+
   -- of a giving back in this table
   give_run_at : (slot : Option KnownSlot) (first pages index : ℕ) → IsRunIn env.geometry first pages
       → IsRunWord first pages index
@@ -200,57 +276,12 @@ module _ (env : Env) (mix : ℕ → ℕ → ℕ → ℕ) (c : ℕ) (h : Holding)
       → GiveMoved slot (pages_of_give_run give) (give_run_plan give)
       (give_run_after give (old_of words (give_run_plan give)))
   give_run_at slot first pages index run_in in_word knows =
-      let give : GiveRunModel = record { geometry = env.geometry; first = first; pages = pages; index = index } in
+      let give = giving first pages index run_in in_word in
       let op = give_run_plan give in
-      let word = old_of words op in
-      let run = run_bits first pages index in
-      let within = run_in.within in
-      let until = in_word.until in
-      let bit_in : (p : ℕ) → has_bit index run p ≡ true → (p / 64 ≡ index) × (first ≤ p) × (p < first + pages) =
-      λ p there.
-      let bit = has_bit-is index run p there in
-      let low = bit_at-run_from first pages index (p % 64) (omega arith) bit.1 in
-      let high = bit_at-run_until first pages index (p % 64) (omega arith) bit.1 in
-      (bit.0, omega (arith, low, bit.0), omega (arith, high, bit.0)) in
-      let is_bit : (p : ℕ) → p / 64 ≡ index → first ≤ p → p < first + pages → has_bit index run p ≡ true =
-      λ p here low high. is_has_bit index run p here (bit_at-run first pages index (p % 64) (omega arith)
-      (omega (arith, low, here)) (omega (arith, high, here))) in
-      give_pages_step env mix c h known words G all whole slot index run op (pages_of_give_run give)
-      (given_behind (give_run_after give word)) (omega (arith, within, until))
-      (λ p there. let is = bit_in p there in omega (arith, is.2, within))
-      (record {
-        on = refl;
-        set = λ bit low is. omega (arith, is, bit_at_or word run bit, bit_at-lt word bit);
-        others = λ bit low is. omega (arith, is, bit_at_or word run bit, bit_at-lt word bit, bit_at-lt run bit);
-      })
-      (λ p there.
-      let is = bit_in p there in
-      is-yet give p (omega (arith, is.2, within)) (omega (arith, is.0)) is.1 is.2)
-      (λ p. cond_both {A = GiveRunModel × Next (Unit {0})} (nat_lt (64 * (index + 1)) (first + pages)) _ _
-      (λ r. In p (given_behind r) ↔ (In p (pages_of_give_run give) × (has_bit index run p ≡ false)))
-      (λ t.
-      let next : GiveRunModel = record give { index = index + 1 } in (
-        λ i.
-            let is = yet-is next p i in (
-              is-yet give p is.0 (omega (arith, is.1)) is.2 is.3,
-              false_from (has_bit index run p) (λ there. let bit = bit_in p there in omega (arith, bit.0, is.1)),
-            ),
-        λ both.
-            let is = yet-is give p both.0 in
-            is-yet next p is.0 (elim (cases_lt p (64 * (index + 1))) [
-              | inl here ↦ absurd (both_ways (has_bit index run p) both.1
-                  (is_bit p (omega (arith, here, is.1)) is.2 is.3))
-              | inr later ↦ later
-            ]) is.2 is.3,
-      ))
-      (λ f.
-      let last : first + pages ≤ 64 * (index + 1) = ltb-false (64 * (index + 1)) (first + pages) f in (
-        λ i. absurd i,
-        λ both.
-            let is = yet-is give p both.0 in
-            absurd (both_ways (has_bit index run p) both.1 (is_bit p (omega (arith, is.1, is.3, last)) is.2 is.3)),
-      )))
-      knows
+      give_pages_step env mix c h known words G all whole slot index (run_bits first pages index) op (pages_of_give_run give)
+      (given_behind (give_run_after give (old_of words op))) (word_within first pages index run_in in_word)
+      (run_among first pages index run_in in_word) (sets_run first pages index run_in in_word)
+      (run_had first pages index run_in in_word) (run_less first pages index run_in in_word) knows
 
   -- the giving back of a run, of whose pages the call has these still
   pub give_run_step : (slot : Option KnownSlot) (give : GiveRunModel) → IsGiveRunIn env.geometry give

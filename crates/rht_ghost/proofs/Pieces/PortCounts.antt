@@ -48,9 +48,10 @@ module _ (env : Env) (mix : ℕ → ℕ → ℕ → ℕ) (c : ℕ) (h : Holding)
         slots = knows.only.slots;
         pages_in = knows.only.pages_in;
         works = knows.only.works;
+        reads = knows.only.reads;
       }) (NodeMeans-stay env mix c M M' G G' (λ n has. has.mine)
       (λ n has w. write.others (Node n w) has.among (λ e. cc)) node knows.means.node) (TableMeans-stay env mix c M M' G G'
-      stay table knows.means.table) (BucketMeans-own env mix c M M' G G' (members_used env mix M G whole) (λ j holds. refl)
+      refl stay table knows.means.table) (BucketMeans-own env mix c M M' G G' (members_used env mix M G whole) (λ j holds. refl)
       (λ j n h i. refl)
       (chains_stay env mix c M M' G PortCount ((M PortCount + 1) % 2 ^ 64) whole write
       (λ n used e. cc))

@@ -31,9 +31,9 @@ use Rattle.rht_chain.specs.Probe.{ProbeModel, probe_plan, probe_after, lock_of_p
 use Rattle.rht_chain.specs.declared.probe.ProbeAt.{ProbeAt}
 use Rattle.rht_chain.specs.declared.probe.ProbeAt.TheVariants as probes
 use Rattle.rht_chain.specs.declared.probe.Probed.{Probed}
-use Rattle.rht_ghost.proofs.Theory.Ghosts.{put-same, put-all, Ghost, held_by}
+use Rattle.rht_ghost.proofs.Theory.Ghosts.{put-same, put-all, IsSince, Ghost, table_at, held_by}
 use Rattle.rht_ghost.proofs.Theory.Wholes.{chain_of, key_of, place_at, word_index, place_at-index, index-within, stop, Whole, at-there}
-use Rattle.rht_ghost.proofs.Theory.Passed.{NoKey, home-bucket, held-no_entry}
+use Rattle.rht_ghost.proofs.Theory.Passed.{NoKey, home-bucket, home-table, held-no_entry}
 use Rattle.rht_ghost.proofs.Theory.Knowns.{KnownNode, AtHome, KnownBucket, Unlocked, Locks, Stands, Differs, Missed, Found, knows_plain, StandsAt}
 use Rattle.rht_ghost.proofs.Theory.Knowledge.{plainly, HoldsLock, IsStanding, IsReaching, BucketMeans, Knowing}
 use Rattle.rht_ghost.proofs.Theory.Steps.{bare, TakesLock, by_test, Holding, mem, SilentStep, silent, silent-map, loads}
@@ -377,13 +377,16 @@ module _ (env : Env) (mix : ℕ → ℕ → ℕ → ℕ) (c : ℕ) (h : Holding)
         let write : IsWrite env.geometry M M' (PageWord j) (found + 1)
         = subst (λ v. IsWrite env.geometry M M' (PageWord j) v) (exchanged here)
         (is_write env.geometry words (PageWord j) op all (index-within env mix place at.bucket) (sym is)) in
+        let since : IsSince (G.from c) (table_at G j) =
+        subst (IsSince (G.from c))
+        (sym (home-table env mix M G whole port at.passing.at.table j (at-there at.passing.at) at.here)) at.passing.since in
         let taken = take_lock env mix c j found M M' G whole (index-within env mix place at.bucket)
-        (home-bucket env mix M G whole port at.passing.at.table j (at-there env mix whole.tables slot at.passing.at) at.here) here
+        (home-bucket env mix M G whole port at.passing.at.table j (at-there at.passing.at) at.here) since here
         even write in
         let b = held_by (G.bucket j) (Some c) in
         silent env mix c words G op (holding None) (holding (Some place))
         (LockKnows (record { place = place; at = locks.Exchange found }, Done found)) (TakesLock j)
-        whole tt tt taken.0
+        whole since tt taken.0
         (record {
           on = sym is;
           even = rw same even;

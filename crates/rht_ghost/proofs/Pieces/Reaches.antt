@@ -2,7 +2,7 @@
 --
 -- What they tell is true of the words and of any table that is known by its slot. It is no knowledge of a caller: it may be carried along
 -- in any induction over runs, since it outlives whatever leaves tables what they are.
-use Rattle.std.proofs.Common.{◌≡◌, ℕ, ◌<◌, List, Option, Some, None, cond, refl, sym, ◌∙◌, ap, subst}
+use Rattle.std.proofs.Common.{◌≡◌, ℕ, ◌<◌, ◌≤◌, List, Option, Some, None, cond, refl, sym, ◌∙◌, ap, subst}
 use Rattle.rht_words.specs.declared.env.Env.{Env}
 use Rattle.rht_words.specs.declared.geometry.Geometry.{Geometry}
 use Rattle.rht_words.specs.declared.machine.Next.{Next}
@@ -24,10 +24,10 @@ use Rattle.rht_nest.specs.declared.reach.ReachAt.{ReachAt}
 use Rattle.rht_nest.specs.declared.reach.ReachAt.TheVariants as reaches
 use Rattle.rht_ghost.proofs.Theory.Ghosts.{Ghost}
 use Rattle.rht_ghost.proofs.Theory.Wholes.{IsAt, at-there, Whole, hash_in, home}
-use Rattle.rht_ghost.proofs.Theory.Passed.{TablesGrow}
+use Rattle.rht_ghost.proofs.Theory.Passed.{GrowsFrom}
 use Rattle.rht_ghost.proofs.Theory.Knowledge.{IsWayTo}
 use Rattle.rht_ghost.proofs.Theory.WaysRead.{IsPlaceOf, on_way_next, home_place}
-use Rattle.rht_ghost.proofs.Theory.WaysStay.{IsWayTo-stay}
+use Rattle.rht_ghost.proofs.Theory.WaysStay.{IsWayTo-from}
 use Rattle.rht_ghost.proofs.Theory.Steps.{Holding, by_test, mem, SilentStep, loads}
 use Rattle.rht_ghost.proofs.Pieces.TableLoads.{shape_word, way_begins, flat_home, way_missing, way_home}
 
@@ -48,12 +48,13 @@ module _ (env : Env) (mix : ℕ → ℕ → ℕ → ℕ) where
   ReachTells G port τ (m, Go) = IsReachingHome G port τ m.at
   ReachTells G port τ (m, Done bucket) = HasReached G port τ bucket
 
-  -- it outlives whatever leaves tables what they are
-  pub IsReachingHome-stay : (G G' : Ghost) → TablesGrow env mix G G' → (port τ : ℕ) (state : ReachAt) → τ < G.attached
-      → IsReachingHome G port τ state → IsReachingHome G' port τ state
-  IsReachingHome-stay G G' grow port τ reaches.Shape attached is = tt
-  IsReachingHome-stay G G' grow port τ (reaches.Seed shape) attached is = (grow.tables τ attached).shape ∙ is
-  IsReachingHome-stay G G' grow port τ (reaches.Entry place) attached is = IsWayTo-stay env mix G G' grow port τ place attached is
+  -- it outlives whatever leaves the table what it is
+  pub IsReachingHome-from : (low : ℕ) (G G' : Ghost) → GrowsFrom env mix low G G' → (port τ : ℕ) (state : ReachAt) → τ < G.attached
+      → low ≤ τ → IsReachingHome G port τ state → IsReachingHome G' port τ state
+  IsReachingHome-from low G G' grow port τ reaches.Shape attached from is = tt
+  IsReachingHome-from low G G' grow port τ (reaches.Seed shape) attached from is = (grow.tables τ attached).shape ∙ is
+  IsReachingHome-from low G G' grow port τ (reaches.Entry place) attached from is =
+      IsWayTo-from env mix low G G' grow port τ place attached from is
 
   module _ (words : List ℕ) (G : Ghost) (whole : Whole env mix (mem env mix words) G) where
     abbrev M : Memory
@@ -93,7 +94,7 @@ module _ (env : Env) (mix : ℕ → ℕ → ℕ → ℕ) where
           (starts.Running (nested_place env.geometry shape number)) (starts.Done (At place)))))
           (is_nested shape)
           (λ nested. way_begins env mix M G whole port slot at shape shape_is nested)
-          (λ flat. home_place env mix M G whole port τ (at-there env mix whole.tables slot at) place
+          (λ flat. home_place env mix M G whole port τ (at-there at) place
           (flat_home env mix M G whole port slot at shape shape_is flat))
 
       module _ (state : ReachAt) (place : PlaceModel) (same : place.geometry ≡ env.geometry)
@@ -105,9 +106,9 @@ module _ (env : Env) (mix : ℕ → ℕ → ℕ → ℕ) where
         entered_tells : (page : ℕ) → led_by ≡ Some page → (start : Start PlaceModel ℕ) → entered place page ≡ start
             → let next = went_behind place start in Tells (followed (at_slot state) next.0 next.1)
         entered_tells page leads (starts.Running next) e =
-            on_way_next env mix M G whole port τ (at-there env mix whole.tables slot at) place to next page leads e
+            on_way_next env mix M G whole port τ (at-there at) place to next page leads e
         entered_tells page leads (starts.Done there) e =
-            home_place env mix M G whole port τ (at-there env mix whole.tables slot at) there
+            home_place env mix M G whole port τ (at-there at) there
             (way_home env mix M G whole port slot at place same to page there leads e)
 
         -- and one that leads to none: the bucket is missing

@@ -74,8 +74,8 @@ module _ (env : Env) (mix : ℕ → ℕ → ℕ → ℕ) (c : ℕ) (G : Ghost) w
       → change.one_owner ≢ NodeHeld c → change.other_owner ≢ NodeHeld c
       → ((n : ℕ) → has ≡ Some n → (n ≡ change.one) ⊎ (n ≡ change.other))
       → (change.bucket.holder ≡ Some c → lock ≡ Some place)
-      → HasOnly env mix c G has (Some place) None raised None [] false
-      → HasOnly env mix c (changed G c change) None lock None change.raised None [] false
+      → HasOnly env mix c G has (Some place) None raised None [] false true
+      → HasOnly env mix c (changed G c change) None lock None change.raised None [] false true
   only_left change place has lock raised is one other given holder only = record {
     nodes = put-all (λ n o. o ≡ NodeHeld c → is_at None n) (put G.node change.one change.one_owner) change.other
         change.other_owner (λ e. absurd (other e))
@@ -97,6 +97,7 @@ module _ (env : Env) (mix : ℕ → ℕ → ℕ → ℕ) (c : ℕ) (G : Ghost) w
     slots = only.slots;
     pages_in = only.pages_in;
     works = only.works;
+    reads = only.reads;
   }
     where
       is_at : Option ℕ → ℕ → Type 0
@@ -107,8 +108,8 @@ module _ (env : Env) (mix : ℕ → ℕ → ℕ → ℕ) (c : ℕ) (G : Ghost) w
       → place_at env mix change.place ≡ place
       → change.one_owner ≢ NodeHeld c → change.other_owner ≢ NodeHeld c
       → (change.bucket.holder ≡ Some c → lock ≡ Some place)
-      → HasOnly env mix c G None (Some place) None raised None [] false
-      → HasOnly env mix c (changed G c change) None lock None change.raised None [] false
+      → HasOnly env mix c G None (Some place) None raised None [] false true
+      → HasOnly env mix c (changed G c change) None lock None change.raised None [] false true
   only_rebound change place lock raised is one other holder only =
       only_left change place None lock raised is one other (λ n none. absurd (cc)) holder only
 

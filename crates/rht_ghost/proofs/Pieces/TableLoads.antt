@@ -13,7 +13,7 @@ use Rattle.rht_policy.specs.Mix.{bucket_of}
 use Rattle.rht_nest.specs.Tables.{is_nested}
 use Rattle.rht_nest.specs.Place.{PlaceModel, flat_place, nested_place, entered, place_or_last}
 use Rattle.rht_ghost.proofs.Theory.Ghosts.{Ghost}
-use Rattle.rht_ghost.proofs.Theory.Wholes.{IsThere, IsAt, at-on, at-there, at-right, Whole, hash_in, home, place_at, future_in}
+use Rattle.rht_ghost.proofs.Theory.Wholes.{IsThere, IsAt, at-there, at-right, Whole, hash_in, home, place_at, future_in}
 use Rattle.rht_ghost.proofs.Theory.Knowledge.{IsRightBehind, IsWayTo}
 use Rattle.rht_ghost.proofs.Theory.WaysRead.{words_of_pages, read_by_entry, home_flat, on_way_read, missing_home}
 
@@ -47,7 +47,7 @@ module _ (env : Env) (mix : ℕ → ℕ → ℕ → ℕ) (M : Memory) (G : Ghost
       let τ = at.table in
       rw (future_word slot at) (elim (cases_lt (τ + 1) G.attached) [
         | inl more ↦
-            let right = whole.tables.each (τ + 1) (at-on env mix whole.tables slot at (τ + 1) (omega arith) more) in
+            let right = whole.tables.each (τ + 1) (at.on (τ + 1) (omega arith) more) in
             let next = (G.table (τ + 1)).slot in
             let is : slot_of (future_in env mix G τ) ≡ Some next =
             ap (λ t. slot_of (cond t (future_of next) 0)) (lt-ltb (τ + 1) G.attached more)
@@ -64,7 +64,7 @@ module _ (env : Env) (mix : ℕ → ℕ → ℕ → ℕ) (M : Memory) (G : Ghost
     τ = at.table
 
     is_there : IsThere G τ
-    is_there = at-there env mix whole.tables slot at
+    is_there = at-there at
 
     -- ---- by its shape and its seed
 

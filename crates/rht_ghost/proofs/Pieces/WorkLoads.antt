@@ -21,7 +21,7 @@ use Rattle.rht_policy.specs.Mix.{bucket_of}
 use Rattle.rht_nest.specs.Place.{PlaceModel, flat_place, nested_place, entered, behind_entry, place_or_last}
 use Rattle.rht_nest.specs.Tables.{is_nested}
 use Rattle.rht_ghost.proofs.Theory.Ghosts.{Ghost, lock_bit, none-some}
-use Rattle.rht_ghost.proofs.Theory.Wholes.{chain_of, key_of, place_at, word_index, place_at-index, index-within, hash_in, stop, PlacedRight, Whole, IsAt, current-there, at-there, at-right}
+use Rattle.rht_ghost.proofs.Theory.Wholes.{chain_of, key_of, place_at, word_index, place_at-index, index-within, hash_in, stop, PlacedRight, Whole, IsAt, current-there, current-at, at-there, at-right}
 use Rattle.rht_ghost.proofs.Theory.Passed.{hash-below, held-no_entry}
 use Rattle.rht_ghost.proofs.Theory.Knowns.{KnownAim, NoAim, Onward, From, Beyond, KnownRehash, KnownPlace, KnownEntry, KnownWork, Works, Rooted, Follows, Empties, Nears, Faces, InBucket, Bare, AtEntry, AtTail, Aims}
 use Rattle.rht_ghost.proofs.Theory.Knowledge.{DoesWork, HasLock, IsRightBehind, next_at, IsFrom, IsEmptying, IsNearing, IsInBucket, WorkMeans}
@@ -78,7 +78,7 @@ module _ (env : Env) (mix : ℕ → ℕ → ℕ → ℕ) (c : ℕ) (M : Memory) 
 
   -- it is known by its slot
   abbrev root_at : (root : ℕ) → (G.table G.current).slot ≡ root → IsAt G root
-  root_at root is = record { table = G.current; attached = whole.tables.current_in; slot_is = is }
+  root_at root is = current-at env mix whole.tables root is
 
   pub from_root : (root : ℕ) → Knows (Rooted root NoAim) → Knows (Rooted root (From root))
   from_root root knows =
@@ -109,7 +109,7 @@ module _ (env : Env) (mix : ℕ → ℕ → ℕ → ℕ) (c : ℕ) (M : Memory) 
         works = knows.works;
         more = record {
           root_is = knows.more.root_is;
-          aim_is = record { at = next_at env mix G aim.at.table next leads; from = omega (arith, aim.from) };
+          aim_is = record { at = next_at env mix G aim.at.table next aim.at.on leads; from = omega (arith, aim.from) };
         };
       }
 
@@ -335,7 +335,7 @@ module _ (env : Env) (mix : ℕ → ℕ → ℕ → ℕ) (c : ℕ) (M : Memory) 
       go (Some next) leads = in_bucket root at (From slot) (From next) knows (λ is. record {
         next = is.next;
         out = is.out;
-        aim_is = record { at = next_at env mix G aim.at.table next leads; from = omega (arith, aim.from) };
+        aim_is = record { at = next_at env mix G aim.at.table next aim.at.on leads; from = omega (arith, aim.from) };
       })
 
   -- its shape, where that isn't nested
@@ -509,7 +509,7 @@ module _ (env : Env) (mix : ℕ → ℕ → ℕ → ℕ) (c : ℕ) (M : Memory) 
       first.bound_to in
       let aim = bucket.aim_is in
       let τ = aim.at.table in
-      let is_there = at-there env mix whole.tables slot aim.at in
+      let is_there = at-there aim.at in
       let key = key_of M entry.node in
       let number = hash_in env mix G key τ in
       let below = hash-below env mix M G whole key τ in

@@ -1,5 +1,5 @@
 -- The operations of the caller that does the work, as steps: its loads, and the lock of the next bucket, which is taken and dropped.
-use Rattle.std.proofs.Common.{◌≡◌, ◌⊎◌, ℕ, ◌+◌, ◌%◌, ◌==◌, List, length, slice_index, Option, Some, None, cond, refl, sym, ◌∙◌, ap, subst, inl, inr, arith}
+use Rattle.std.proofs.Common.{◌≡◌, ◌⊎◌, ℕ, ◌+◌, ◌%◌, ◌==◌, List, length, slice_index, Option, Some, None, true, cond, refl, sym, ◌∙◌, ap, subst, inl, inr, arith}
 use Rattle.std.proofs.lemmas.Bool.{eqb-true, eq-eqb}
 use Rattle.rht_words.specs.declared.env.Env.{Env}
 use Rattle.rht_words.specs.declared.op.Op.{Op}
@@ -12,12 +12,12 @@ use Rattle.rht_words.proofs.Memory.{Memory, IsWrite, is_write}
 use Rattle.rht_chain.specs.Lock.{LockModel, lock_plan, lock_after, IsEven}
 use Rattle.rht_chain.specs.declared.lock.LockAt.{LockAt}
 use Rattle.rht_chain.specs.declared.lock.LockAt.TheVariants as locks
-use Rattle.rht_ghost.proofs.Theory.Ghosts.{put-all, Ghost, lock_bit, held_by, with_holder}
+use Rattle.rht_ghost.proofs.Theory.Ghosts.{put-all, IsSince, Ghost, lock_bit, held_by, with_holder}
 use Rattle.rht_ghost.proofs.Theory.Wholes.{place_at, word_index, place_at-index, index-within, Whole}
 use Rattle.rht_ghost.proofs.Theory.Knowns.{KnownMaking, MakesNothing, NoAim, KnownRehash, KnownPlace, KnownWork, Empties, Faces, InBucket, Bare, Known, Nowhere, Unlocked}
-use Rattle.rht_ghost.proofs.Theory.Knowledge.{HasOnly, WorkMeans, Knowing}
+use Rattle.rht_ghost.proofs.Theory.Knowledge.{HasOnly, ReadsFrom, since-current, WorkMeans, Knowing}
 use Rattle.rht_ghost.proofs.Theory.Steps.{bare, TakesLock, DropsLock, by_test, Holding, mem, SilentStep, silent, loads}
-use Rattle.rht_ghost.proofs.Moves.Working.{lock_work, unlock_work}
+use Rattle.rht_ghost.proofs.Moves.Working.{faced-since, lock_work, unlock_work}
 use Rattle.rht_ghost.proofs.Theory.Passed.{held-no_entry}
 
 -- what a caller knows that does the work
@@ -74,10 +74,10 @@ module _ (env : Env) (mix : ℕ → ℕ → ℕ → ℕ) (c : ℕ) (h : Holding)
 
     -- what is held with another holder of the bucket
     held_only : (j : ℕ) (lock after holder : Option ℕ) → HasOnly env mix c G h.node lock h.second h.raised h.slot
-        h.pages h.worker
+        h.pages h.worker h.section
         → (holder ≡ Some c → (after ≡ Some (place_at env mix j)) ⊎ (h.second ≡ Some (place_at env mix j)))
         → ((i : ℕ) → (i ≡ j → ⊥) → lock ≡ Some (place_at env mix i) → after ≡ Some (place_at env mix i))
-        → HasOnly env mix c (with_holder G j holder) h.node after h.second h.raised h.slot h.pages h.worker
+        → HasOnly env mix c (with_holder G j holder) h.node after h.second h.raised h.slot h.pages h.worker h.section
     held_only j lock after holder only here elsewhere = record {
       nodes = only.nodes;
       locks = put-all (λ i b. b.holder ≡ Some c → (after ≡ Some (place_at env mix i))
@@ -90,17 +90,24 @@ module _ (env : Env) (mix : ℕ → ℕ → ℕ → ℕ) (c : ℕ) (h : Holding)
       slots = only.slots;
       pages_in = only.pages_in;
       works = only.works;
+      reads = only.reads;
     }
 
     exchanged_word : (found : ℕ) (place : ℕ) → word_after found (Exchange place found (found + 1)) ≡ found + 1
     exchanged_word found place = rw (eq-eqb found found refl) refl
 
-    lock_taken : (root : KnownRehash) (number place found : ℕ) → found % 2 ≡ 0
+    -- in its section the caller comes to the current table
+    pub inside-since : h.section ≡ true → (lock : Option ℕ) (making : KnownMaking) (known : KnownWork)
+        → working lock making known M G → IsSince (G.from c) G.current
+    inside-since inside lock making known knows =
+        since-current (G.from c) G.current (subst (λ s. ReadsFrom s (G.from c) G.current) inside knows.only.reads)
+
+    lock_taken : h.section ≡ true → (root : KnownRehash) (number place found : ℕ) → found % 2 ≡ 0
         → old_of words (Exchange place found (found + 1)) ≡ found
         → working None MakesNothing (Faces root number place) M G
         → LockMoved root number (Exchange place found (found + 1))
         (record { place = place; at = locks.Exchange found }, Done found)
-    lock_taken root number place found even same knows =
+    lock_taken inside root number place found even same knows =
         let op = Exchange place found (found + 1) in
         let is = knows.means.work.more in
         let j = word_index env mix place in
@@ -112,11 +119,12 @@ module _ (env : Env) (mix : ℕ → ℕ → ℕ → ℕ) (c : ℕ) (h : Holding)
         subst (λ v. IsWrite env.geometry M M' (PageWord j) v)
         (ap (λ w. word_after w op) here ∙ exchanged_word found place)
         (is_write env.geometry words (PageWord j) op all within (sym at)) in
-        let worked = lock_work env mix c M G whole knows.means.work.works root number place found M' is here even
+        let since = inside-since inside None MakesNothing (Faces root number place) knows in
+        let worked = lock_work env mix c M G whole knows.means.work.works since root number place found M' is here even
         write in
         silent env mix c words G op (holding None) (holding (Some place))
         (LockWorks root number (record { place = place; at = locks.Exchange found }, Done found)) (TakesLock j) whole
-        tt tt worked.made
+        (faced-since env mix c M G whole since root number place is) tt worked.made
         (record {
           on = sym at;
           even = rw same even;
@@ -130,11 +138,11 @@ module _ (env : Env) (mix : ℕ → ℕ → ℕ → ℕ) (c : ℕ) (h : Holding)
           means = record { node = tt; table = tt; bucket = tt; making = tt; work = worked.means };
         })
 
-    lock_work_at : (root : KnownRehash) (number place : ℕ) (at : LockAt) → IsEven at
+    lock_work_at : h.section ≡ true → (root : KnownRehash) (number place : ℕ) (at : LockAt) → IsEven at
         → working None MakesNothing (Faces root number place) M G
         → let lock : LockModel = record { place = place; at = at } in
         LockMoved root number (lock_plan lock) (lock_after lock (old_of words (lock_plan lock)))
-    lock_work_at root number place locks.Word even knows =
+    lock_work_at inside root number place locks.Word even knows =
         let word = old_of words (Load place) in
         by_test (λ t. LockMoved root number (Load place) (cond t (record { place = place; at = locks.Word }, Go)
         (record { place = place; at = locks.Exchange word }, Go))) (word % 2 == 1)
@@ -142,20 +150,20 @@ module _ (env : Env) (mix : ℕ → ℕ → ℕ → ℕ) (c : ℕ) (h : Holding)
         (LockWorks root number (record { place = place; at = locks.Word }, Go)) whole refl refl knows)
         (λ t. loads env mix c words G (Load place) (holding None) (holding None)
         (LockWorks root number (record { place = place; at = locks.Exchange word }, Go)) whole refl refl knows)
-    lock_work_at root number place (locks.Exchange found) even knows =
+    lock_work_at inside root number place (locks.Exchange found) even knows =
         let op = Exchange place found (found + 1) in
         let word = old_of words op in
         by_test (λ t. (word == found) ≡ t → LockMoved root number op
         (cond t (record { place = place; at = locks.Exchange found }, Done found)
         (record { place = place; at = locks.Word }, Go))) (word == found)
-        (λ t e. lock_taken root number place found even (eqb-true word found t) knows)
+        (λ t e. lock_taken inside root number place found even (eqb-true word found t) knows)
         (λ t e. loads env mix c words G op (holding None) (holding None)
         (LockWorks root number (record { place = place; at = locks.Word }, Go)) whole (rw t refl) refl knows) refl
 
-    pub lock_work_step : (root : KnownRehash) (number : ℕ) (lock : LockModel) → IsEven lock.at
+    pub lock_work_step : h.section ≡ true → (root : KnownRehash) (number : ℕ) (lock : LockModel) → IsEven lock.at
         → working None MakesNothing (Faces root number lock.place) M G
         → LockMoved root number (lock_plan lock) (lock_after lock (old_of words (lock_plan lock)))
-    lock_work_step root number lock even knows = lock_work_at root number lock.place lock.at even knows
+    lock_work_step inside root number lock even knows = lock_work_at inside root number lock.place lock.at even knows
 
     -- ---- and unlocked, without an entry
 

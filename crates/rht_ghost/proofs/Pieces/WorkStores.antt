@@ -1,5 +1,6 @@
 -- The operations by which the work changes what others see, as steps: the work lock is taken and given back, the bucket to which an entry
--- goes is locked, the entry is silent there, the work stops at a bucket, and the current table is left behind and retired.
+-- goes is locked, the entry is silent there, the work stops at a bucket, and the current table is left behind, and is then being
+-- retired.
 use Rattle.std.proofs.Common.{◌≡◌, ◌≢◌, ◌⊎◌, ℕ, ◌+◌, ◌*◌, ◌%◌, ◌<◌, ◌==◌, List, [], length, slice_index, Option, Some, None, Bool, true, false, cond, refl, sym, ◌∙◌, ap, subst, inl, inr, arith}
 use Rattle.std.proofs.lemmas.Bool.{eqb-true, eq-eqb, ne_eqb}
 use Rattle.rht_words.specs.declared.env.Env.{Env}
@@ -17,18 +18,18 @@ use Rattle.rht_words.proofs.Members.{in-middle}
 use Rattle.rht_chain.specs.Lock.{LockModel, lock_plan, lock_after, IsEven}
 use Rattle.rht_chain.specs.declared.lock.LockAt.{LockAt}
 use Rattle.rht_chain.specs.declared.lock.LockAt.TheVariants as locks
-use Rattle.rht_ghost.proofs.Theory.Ghosts.{has_table, put-all, Ghost, index_at, lock_bit, held_by, with_holder}
+use Rattle.rht_ghost.proofs.Theory.Ghosts.{Retiring, has_table, none-some, put-all, IsSince, Ghost, index_at, lock_bit, held_by, with_holder}
 use Rattle.rht_ghost.proofs.Theory.Wholes.{place_at, word_index, place_at-index, index-within, Whole, slot-there}
-use Rattle.rht_ghost.proofs.Theory.Knowns.{MakesNothing, KnownAim, NoAim, KnownRehash, KnownPlace, KnownEntry, KnownWork, NoWork, Works, Empties, LeavesBehind, InBucket, Aims, Brings, TakesOut, HasBrought}
-use Rattle.rht_ghost.proofs.Theory.Knowledge.{Only, WorkMeans, Knowing}
+use Rattle.rht_ghost.proofs.Theory.Knowns.{MakesNothing, KnownAim, NoAim, KnownRehash, KnownPlace, KnownEntry, KnownWork, NoWork, Works, Empties, LeavesBehind, HasKept, InBucket, Aims, Brings, TakesOut, HasBrought}
+use Rattle.rht_ghost.proofs.Theory.Knowledge.{Only, ReadsFrom, since-current, WorkMeans, Knowing}
 use Rattle.rht_ghost.proofs.Theory.Frames.{still}
 use Rattle.rht_ghost.proofs.Theory.Departures.{cut_plain}
 use Rattle.rht_ghost.proofs.Theory.Steps.{bare, DropsLock, TakesWork, GivesWork, BeginsMoving, TakesSecond, Leaves, Arrives, CutsOff, Publishes, Retires, cut_place, by_test, unchanged, Holding, mem, SilentStep, silent, loads}
 use Rattle.rht_ghost.proofs.Moves.Relinking.{last_in, relink_address}
 use Rattle.rht_ghost.proofs.Moves.WorkLocks.{take_work}
 use Rattle.rht_ghost.proofs.Moves.CutOffs.{cut_value}
-use Rattle.rht_ghost.proofs.Moves.Working.{can_leave, can_arrive, can_cut, can_publish, can_retire, take_work_lock, give_work_lock, lock_second_work, stop_work, leave_work, arrive_work, cut_work, publish_work, retire_work}
-use Rattle.rht_ghost.proofs.Moves.WorkHoldings.{left_only, arrived_only, cut_only, published_only, retired_only, worker_only}
+use Rattle.rht_ghost.proofs.Moves.Working.{can_leave, can_arrive, can_cut, can_publish, can_retire, take_work_lock, give_work_lock, aimed-since, lock_second_work, stop_work, leave_work, arrive_work, cut_work, publish_work, retire_work}
+use Rattle.rht_ghost.proofs.Moves.WorkHoldings.{left_only, arrived_only, cut_only, published_only, restood_only, worker_only}
 use Rattle.rht_ghost.proofs.Pieces.WorkSteps.{knows_work}
 use Rattle.rht_ghost.proofs.Theory.Passed.{held-no_entry}
 
@@ -98,7 +99,7 @@ module _ (env : Env) (mix : ℕ → ℕ → ℕ → ℕ) (c : ℕ) (h : Holding)
         (take_work env mix c M (after op) G whole found write).1 tt worked.made
         (record { taking = refl; free = found; idle = refl; holds = refl })
         (knows_so (at_work true false) Works (after op) _ (worker_only env mix c G h.node None None h.raised h.slot h.pages
-        false knows.only (Some c) true (λ e. refl)) worked.means)
+        false h.section knows.only (Some c) true (λ e. refl)) worked.means)
 
     -- where another caller has it nothing changes
     pub lose_work_step : old_of words (work_exchange env mix) ≢ 0 → knowing false false NoWork M G
@@ -109,18 +110,19 @@ module _ (env : Env) (mix : ℕ → ℕ → ℕ → ℕ) (c : ℕ) (h : Holding)
         loads env mix c words G op (at_work false false) (at_work false false) (knowing false false NoWork) whole
         (ap (λ t. cond t 1 (old_of words op)) (ne_eqb (old_of words op) 0 found)) refl knows
 
-    pub give_work_step : (moving : Bool) → knowing true moving Works M G
+    -- it has no slot when it gives the work back
+    pub give_work_step : h.slot ≡ None → (moving : Bool) → knowing true moving Works M G
         → let op = Store (place_of env.geometry WorkLock) 0 in
         SilentStep env mix c words G op (at_work true moving) (at_work false false) (knowing false false NoWork)
-    give_work_step moving knows =
+    give_work_step no_slot moving knows =
         let op = Store (place_of env.geometry WorkLock) 0 in
         let works = knows.means.work.works in
         let worked = give_work_lock env mix c M G whole works (after op) knows.only.locks
-        (is_write env.geometry words WorkLock op all tt refl) in
+        (λ s mine. none-some no_slot (knows.only.slots s mine)) (is_write env.geometry words WorkLock op all tt refl) in
         silent env mix c words G op (at_work true moving) (at_work false false) (knowing false false NoWork) GivesWork
         whole works.0 tt worked.made (record { giving = refl; has = refl; holds = refl })
         (knows_so (at_work false false) NoWork (after op) _ (worker_only env mix c G h.node None None h.raised h.slot
-        h.pages true knows.only None false (λ e. absurd (cc))) worked.means)
+        h.pages true h.section knows.only None false (λ e. absurd (cc))) worked.means)
 
     -- a load from which on entries are silent, and after which this is known
     pub begin_moving_step : (op : Op) (known more : KnownWork) → word_after (old_of words op) op ≡ old_of words op
@@ -150,6 +152,7 @@ module _ (env : Env) (mix : ℕ → ℕ → ℕ → ℕ) (c : ℕ) (h : Holding)
       slots = only.slots;
       pages_in = only.pages_in;
       works = only.works;
+      reads = only.reads;
     }
 
     -- the lock of a bucket at which the work stops is dropped
@@ -193,12 +196,13 @@ module _ (env : Env) (mix : ℕ → ℕ → ℕ → ℕ) (c : ℕ) (h : Holding)
           SilentStep env mix c words G op (holding (Some at.place) None) (holding (Some at.place) (second_by r))
           (SecondWorks root at entry r)
 
-      second_taken : (root : KnownRehash) (at : KnownPlace) (entry : KnownEntry) (place found : ℕ) → found % 2 ≡ 0
+      second_taken : h.section ≡ true → (root : KnownRehash) (at : KnownPlace) (entry : KnownEntry) (place found : ℕ)
+          → found % 2 ≡ 0
           → old_of words (Exchange place found (found + 1)) ≡ found
           → working (Some at.place) None (Aims root at entry place) M G
           → SecondMoved root at entry (Exchange place found (found + 1))
           (record { place = place; at = locks.Exchange found }, Done found)
-      second_taken root at entry place found even same knows =
+      second_taken inside root at entry place found even same knows =
           let op = Exchange place found (found + 1) in
           let r : LockModel × Next ℕ = (record { place = place; at = locks.Exchange found }, Done found) in
           let aim = knows.means.work.more.aim in
@@ -210,10 +214,13 @@ module _ (env : Env) (mix : ℕ → ℕ → ℕ → ℕ) (c : ℕ) (h : Holding)
           subst (λ v. IsWrite env.geometry M (after op) (PageWord i) v) (ap (λ w. word_after w op) here ∙ exchanged)
           (is_write env.geometry words (PageWord i) op all (index-within env mix place aim.bucket) (sym there)) in
           let works = knows.means.work.works in
-          let worked = lock_second_work env mix c M G whole works root at entry place found (after op)
+          let since : IsSince (G.from c) G.current =
+          since-current (G.from c) G.current (subst (λ s. ReadsFrom s (G.from c) G.current) inside knows.only.reads) in
+          let worked = lock_second_work env mix c M G whole works since root at entry place found (after op)
           knows.means.work.more here even write in
           silent env mix c words G op (holding (Some at.place) None) (holding (Some at.place) (Some place))
-          (SecondWorks root at entry r) (TakesSecond i) whole works.0 tt worked.made
+          (SecondWorks root at entry r) (TakesSecond i) whole
+          (works.0, aimed-since env mix c M G whole since entry.node place aim) tt worked.made
           (record {
             on = sym there;
             even = rw same even;
@@ -229,11 +236,12 @@ module _ (env : Env) (mix : ℕ → ℕ → ℕ → ℕ) (c : ℕ) (h : Holding)
           (λ e. inr (ap Some (sym there)))
           (λ k ne one. elim one [ inl first ↦ inl first | inr none ↦ absurd (cc) ])) worked.means)
 
-      second_at : (root : KnownRehash) (at : KnownPlace) (entry : KnownEntry) (place : ℕ) (state : LockAt) → IsEven state
+      second_at : h.section ≡ true → (root : KnownRehash) (at : KnownPlace) (entry : KnownEntry) (place : ℕ) (state : LockAt)
+          → IsEven state
           → working (Some at.place) None (Aims root at entry place) M G
           → let lock : LockModel = record { place = place; at = state } in
           SecondMoved root at entry (lock_plan lock) (lock_after lock (old_of words (lock_plan lock)))
-      second_at root at entry place locks.Word even knows =
+      second_at inside root at entry place locks.Word even knows =
           let op = Load place in
           let word = old_of words op in
           let held = holding (Some at.place) None in
@@ -243,21 +251,21 @@ module _ (env : Env) (mix : ℕ → ℕ → ℕ → ℕ) (c : ℕ) (h : Holding)
           (SecondWorks root at entry (record { place = place; at = locks.Word }, Go)) whole refl refl knows)
           (λ t. loads env mix c words G op held held
           (SecondWorks root at entry (record { place = place; at = locks.Exchange word }, Go)) whole refl refl knows)
-      second_at root at entry place (locks.Exchange found) even knows =
+      second_at inside root at entry place (locks.Exchange found) even knows =
           let op = Exchange place found (found + 1) in
           let word = old_of words op in
           let held = holding (Some at.place) None in
           by_test (λ t. (word == found) ≡ t → SecondMoved root at entry op
           (cond t (record { place = place; at = locks.Exchange found }, Done found)
           (record { place = place; at = locks.Word }, Go))) (word == found)
-          (λ t e. second_taken root at entry place found even (eqb-true word found t) knows)
+          (λ t e. second_taken inside root at entry place found even (eqb-true word found t) knows)
           (λ t e. loads env mix c words G op held held
           (SecondWorks root at entry (record { place = place; at = locks.Word }, Go)) whole (rw t refl) refl knows) refl
 
-      pub lock_second_step : (root : KnownRehash) (at : KnownPlace) (entry : KnownEntry) (lock : LockModel)
+      pub lock_second_step : h.section ≡ true → (root : KnownRehash) (at : KnownPlace) (entry : KnownEntry) (lock : LockModel)
           → IsEven lock.at → working (Some at.place) None (Aims root at entry lock.place) M G
           → SecondMoved root at entry (lock_plan lock) (lock_after lock (old_of words (lock_plan lock)))
-      lock_second_step root at entry lock even knows = second_at root at entry lock.place lock.at even knows
+      lock_second_step inside root at entry lock even knows = second_at inside root at entry lock.place lock.at even knows
 
       -- ---- the entry
 
@@ -284,7 +292,7 @@ module _ (env : Env) (mix : ℕ → ℕ → ℕ → ℕ) (c : ℕ) (h : Holding)
           (Leaves j (word_index env mix place) entry.node nodes) whole can tt worked.made
           (record { on = refl; moves = moves; holds = refl })
           (knows_so held (TakesOut root at entry place word) (after op) _
-          (left_only env mix c G h.node (Some at.place) (Some place) h.raised h.slot h.pages h.worker knows.only j nodes
+          (left_only env mix c G h.node (Some at.place) (Some place) h.raised h.slot h.pages h.worker h.section knows.only j nodes
           entry.node) worked.means)
 
       -- it is the first one there, and that bucket is unlocked
@@ -307,7 +315,7 @@ module _ (env : Env) (mix : ℕ → ℕ → ℕ → ℕ) (c : ℕ) (h : Holding)
           (working (Some at.place) None (HasBrought root at entry)) (Arrives j i entry.node) whole can tt worked.made
           (record { on = sym there; moves = moves; has = ap Some (sym there); holds = refl })
           (knows_so (holding (Some at.place) None) (HasBrought root at entry) (after op) _
-          (arrived_only env mix c G h.node (Some at.place) (Some place) h.raised h.slot h.pages h.worker knows.only i
+          (arrived_only env mix c G h.node (Some at.place) (Some place) h.raised h.slot h.pages h.worker h.section knows.only i
           entry.node place refl there) worked.means)
 
       cut_written : (j place : ℕ) (before : Option ℕ) → place_at env mix j ≡ place → j < 64 * env.geometry.pages
@@ -347,7 +355,7 @@ module _ (env : Env) (mix : ℕ → ℕ → ℕ → ℕ) (c : ℕ) (h : Holding)
             holds = refl;
           })
           (knows_so held more (after op) _
-          (cut_only env mix c G h.node (Some at.place) None h.raised h.slot h.pages h.worker knows.only j before)
+          (cut_only env mix c G h.node (Some at.place) None h.raised h.slot h.pages h.worker h.section knows.only j before)
           worked.means)
 
       -- ---- tables
@@ -367,12 +375,12 @@ module _ (env : Env) (mix : ℕ → ℕ → ℕ → ℕ) (c : ℕ) (h : Holding)
           Publishes whole (can_publish env mix c M G whole works root count is size) tt worked.made
           (record { on = refl; moves = moves; holds = refl })
           (knows_so (holding None None) (LeavesBehind root.root) (after op) _
-          (published_only env mix c G h.node None None h.raised h.slot h.pages h.worker knows.only) worked.means)
+          (published_only env mix c G h.node None None h.raised h.slot h.pages h.worker h.section knows.only) worked.means)
 
-      -- and the one that was left behind is retired
+      -- and the one that was left behind is being retired
       pub retire_step : (slot : ℕ) → working None None (LeavesBehind slot) M G
           → SilentStep env mix c words G (Store (place_of env.geometry (Slot slot StateWord)) 2) (holding None None)
-          (holding None None) (working None None Works)
+          (holding None None) (working None None (HasKept slot 0))
       retire_step slot knows =
           let op = Store (place_of env.geometry (Slot slot StateWord)) 2 in
           let works = knows.means.work.works in
@@ -381,10 +389,12 @@ module _ (env : Env) (mix : ℕ → ℕ → ℕ → ℕ) (c : ℕ) (h : Holding)
           let of = whole.tables.slots slot has in
           let within : slot < 8 =
           subst (λ s. s < 8) of.slot (whole.tables.each (index_at G slot) (slot-there env mix whole.tables slot has)).slot_in in
-          let worked = retire_work env mix c M G whole slot works (after op) is
+          let worked = retire_work env mix c M G whole slot works (after op) within is
           (is_write env.geometry words (Slot slot StateWord) op all (within, tt) refl) in
-          silent env mix c words G op (holding None None) (holding None None) (working None None Works) (Retires slot) whole
+          silent env mix c words G op (holding None None) (holding None None) (working None None (HasKept slot 0)) (Retires slot)
+          whole
           (can_retire env mix c M G whole slot works is) tt worked.made
           (record { within = within; retiring = refl; moves = moves; holds = refl })
-          (knows_so (holding None None) Works (after op) _
-          (retired_only env mix c G h.node None None h.raised h.slot h.pages h.worker knows.only slot) worked.means)
+          (knows_so (holding None None) (HasKept slot 0) (after op) _
+          (restood_only env mix c G h.node None None h.raised h.slot h.pages h.worker h.section knows.only slot
+          (Retiring (index_at G slot)) refl) worked.means)

@@ -1,13 +1,15 @@
 -- What the work makes of the ghost, and what must be known where it does: who does the work, the entries on their way from bucket to
 -- bucket, which table is the current one, and which tables are retired.
-use Rattle.std.proofs.Common.{◌≡◌, ◌⊎◌, ℕ, ◌+◌, ◌<◌, List, [], ◌∷◌, ◌++◌, Option, Some, None, true, false, sym, ◌∙◌, ap, inl, inr}
+use Rattle.std.proofs.Common.{◌≡◌, ◌≢◌, ◌⊎◌, ℕ, ◌+◌, ◌/◌, ◌<◌, ◌==◌, Bool, List, [], ◌∷◌, ◌++◌, Option, Some, None, true, false, sym, ◌∙◌, ap, inl, inr}
 use Rattle.rht_words.specs.declared.env.Env.{Env}
 use Rattle.rht_words.specs.Links.{head_of}
+use Rattle.rht_words.specs.Places.{Section, Slot, LoadedSection}
 use Rattle.rht_words.specs.Shapes.{unpacked, size_of}
 use Rattle.rht_words.proofs.Memory.{Memory}
-use Rattle.rht_ghost.proofs.Theory.Ghosts.{put, Bucket, Owner, First, Leaving, SlotOwner, Retired, Ghost, is_taken_by, seat_of, seated, has_table, index_at, table_at}
+use Rattle.rht_ghost.proofs.Theory.Ghosts.{put, put_in, has_entries, Table, Bucket, Owner, First, Leaving, PageOwner, PageFree, PageHeld, PageOf, SlotOwner, Live, Retiring, Retired, Back, IsSince, IsOver, Ghost, is_taken_by, seat_of, seated, has_table, index_at, table_at, is_entry, has_bit}
 use Rattle.rht_ghost.proofs.Theory.Wholes.{chain_of, key_of, place_at, home, IsFurther}
-use Rattle.rht_ghost.proofs.Theory.Readiness.{linked_bucket}
+use Rattle.rht_ghost.proofs.Theory.Readiness.{linked_bucket, ArePagesOf}
+use Rattle.rht_ghost.proofs.Theory.Ways.{followed}
 use Rattle.rht_ghost.proofs.Theory.Knowns.{KnownRehash, last_of}
 use Rattle.rht_ghost.proofs.Theory.Knowledge.{IsEmptying}
 
@@ -39,9 +41,39 @@ with_worker G worker = with_standing G G.current G.slot worker
 abbrev pub published : Ghost → Ghost
 published G = with_standing G (G.current + 1) G.slot G.worker
 
--- the table in a slot is retired
+-- the table in a slot is being retired, and then is retired
+abbrev pub retiring : Ghost → ℕ → Ghost
+retiring G s = with_standing G G.current (put G.slot s (Retiring (index_at G s))) G.worker
+
 abbrev pub retired : Ghost → ℕ → Ghost
 retired G s = with_standing G G.current (put G.slot s (Retired (index_at G s))) G.worker
+
+-- The table of an entry without the page behind it, which the caller has from then on: the words of buckets are where the ways lead then.
+abbrev pub without_entry : Table → ℕ → Table
+without_entry table j = record table { entry = put table.entry j None }
+
+abbrev pub withdrawn_table : Table → ℕ → Table
+withdrawn_table table j = record (without_entry table j) { place = followed (without_entry table j) }
+
+abbrev pub withdrawn : Ghost → ℕ → ℕ → ℕ → Ghost
+withdrawn G c j p = record G {
+  table = put G.table (table_at G j) (withdrawn_table (G.table (table_at G j)) j);
+  page = put G.page p (PageHeld c);
+}
+
+-- the page is one of the table's
+abbrev pub is_page_of : ℕ → PageOwner → Bool
+is_page_of τ PageFree = false
+is_page_of τ (PageHeld c) = false
+is_page_of τ (PageOf σ) = σ == τ
+
+-- A table that leaves its slot: the caller gives back what was the table's. The pages of these bits of a word of the map are free at once,
+-- and the caller has the others.
+abbrev pub taken_back : Ghost → ℕ → ℕ → ℕ → ℕ → Ghost
+taken_back G c s index bits = record G {
+  slot = put G.slot s (Back c);
+  page = put_in (has_bit index bits) PageFree (put_in (λ p. is_page_of (index_at G s) (G.page p)) (PageHeld c) G.page);
+}
 
 -- a bucket without its last entry, which is on its way out of it
 abbrev pub left_by : Bucket → List ℕ → ℕ → Bucket
@@ -110,8 +142,47 @@ module _ (env : Env) (mix : ℕ → ℕ → ℕ → ℕ) where
     pub root : KnownRehash
     pub emptied : IsEmptying env mix G root (size_of (unpacked (G.table G.current).shape))
 
-  -- What is known when a table is retired: the current one is right behind it.
+  -- What is known when a table is retired: it is in use, and the current one is right behind it.
   pub record CanRetire (d s : ℕ) (G : Ghost) : Type 0 where
     pub works : G.worker ≡ Some d
     pub table : has_table (G.slot s) ≡ true
+    pub live : G.slot s ≡ Live (index_at G s)
     pub left_behind : index_at G s + 1 ≡ G.current
+
+  -- What is known while the section words are kept in the slot of a table that is being retired.
+  pub record CanKeep (d s : ℕ) (G : Ghost) : Type 0 where
+    pub works : G.worker ≡ Some d
+    pub table : ℕ
+    pub retiring : G.slot s ≡ Retiring table
+
+  -- What is known when the last of them is stored, this word of this caller: that each other section that comes to the table has its word there.
+  pub record CanSettle (d s e word : ℕ) (M : Memory) (G : Ghost) : Type 0 where
+    pub works : G.worker ≡ Some d
+    pub table : ℕ
+    pub retiring : G.slot s ≡ Retiring table
+    pub kept : (k : ℕ) → k ≢ e → IsSince (G.from k) table → M (Slot s (LoadedSection k)) ≡ M (Section k)
+    pub last : IsSince (G.from e) table → word ≡ M (Section e)
+
+  -- a table that is retired, to which no open section comes, and the caller does the work
+  pub record IsGoing (d s τ : ℕ) (G : Ghost) : Type 0 where
+    pub works : G.worker ≡ Some d
+    pub retired : G.slot s ≡ Retired τ
+    pub over : IsOver G τ
+
+  -- What is known when an entry of such a table is cleared: it leads to a page behind none of whose own entries there is a page.
+  pub record CanWithdraw (d j p : ℕ) (G : Ghost) : Type 0 where
+    pub slot : ℕ
+    pub going : IsGoing d slot (table_at G j) G
+    pub of : G.page (j / 64) ≡ PageOf (table_at G j)
+    pub entry : is_entry G j ≡ true
+    pub leads : (G.table (table_at G j)).entry j ≡ Some p
+    pub bare : has_entries ((G.table (table_at G j)).part p) ≡ true → (i : ℕ) → i / 64 ≡ p
+        → (G.table (table_at G j)).entry i ≡ None
+
+  -- What is known when such a table leaves its slot: none of its entries leads to a page, and the pages of these bits are its own.
+  pub record CanTakeBack (d s index bits : ℕ) (G : Ghost) : Type 0 where
+    pub table : ℕ
+    pub going : IsGoing d s table G
+    pub bare : (j : ℕ) → G.page (j / 64) ≡ PageOf table → has_entries ((G.table table).part (j / 64)) ≡ true
+        → (G.table table).entry j ≡ None
+    pub own : ArePagesOf env mix G index bits (PageOf table)

@@ -1,15 +1,16 @@
 -- What a step leaves of words and tables, and of what others know, where it writes elsewhere.
 use Rattle.std.proofs.Common.{◌≡◌, ◌≢◌, ℕ, ◌<◌, List, [], ◌∷◌, Some, None, Bool, refl, sym, ◌∙◌, ap, subst, inl, arith, true, false, ◌⊎◌}
 use Rattle.rht_words.specs.declared.env.Env.{Env}
-use Rattle.rht_words.specs.Places.{Address, CurrentTable, WorkLock, Slot, SlotWord, IsSlotWord, PageMap, Node, NodeWord, ChainLink, KeyWord, OwnerWord, ListLink}
+use Rattle.rht_words.specs.Places.{Address, CurrentTable, WorkLock, Section, Slot, SlotWord, LoadedSection, IsSlotWord, PageMap, Node, NodeWord, ChainLink, KeyWord, OwnerWord, ListLink}
 use Rattle.rht_words.specs.Links.{link_of}
 use Rattle.rht_words.specs.Members.{In}
 use Rattle.rht_words.proofs.Memory.{Memory, IsWrite}
-use Rattle.rht_ghost.proofs.Theory.Ghosts.{Table, Bucket, has_table, table_of_slot, Owner, Free, First, Leaving, Ghost, is_taken_by, is_used, IsUsed, seat_of, seat_in, seat, seat-used, Taken, HasSeat, is_listed, put-other, with_owner, IsListedNode, seat-listed}
+use Rattle.rht_ghost.proofs.Theory.Ghosts.{Table, Bucket, has_table, table_of_slot, unretired, slot_holder, Owner, Free, First, Leaving, Ghost, is_taken_by, is_used, IsUsed, seat_of, seat_in, seat, seat-used, Taken, HasSeat, is_listed, put-other, with_owner, IsListedNode, seat-listed}
 use Rattle.rht_ghost.proofs.Theory.Wholes.{chain_of, key_of, Whole, IsThere, seated_at, out-seated}
-use Rattle.rht_ghost.proofs.Theory.Passed.{same-TableStays, TablesGrow, PassesStay, Passed-stays}
+use Rattle.rht_ghost.proofs.Theory.Passed.{same-TableStays, TablesGrow, PassesStay}
 use Rattle.rht_ghost.proofs.Theory.Knowledge.{HasNode, IsEmptied}
-use Rattle.rht_ghost.proofs.Theory.Reliance.{TablesStay, HoldingsStay, WorkStays, WordStays, ChainsStay, bound_used, Rely}
+use Rattle.rht_ghost.proofs.Theory.SectionFrames.{IsNoSectionWord, SectionsStay}
+use Rattle.rht_ghost.proofs.Theory.Reliance.{TablesStay, all_stay, HoldingsStay, IsUntouched, WorkStays, WordStays, ChainsStay, bound_used, Rely}
 
 -- a node behind a port's first one gets the link that this one has, which leads to first nodes then
 pub record IsLed (M : Memory) (G : Ghost) (M' : Memory) (G' : Ghost) (n : ℕ) : Type 0 where
@@ -173,17 +174,14 @@ module _ (env : Env) (mix : ℕ → ℕ → ℕ → ℕ) where
     placed = λ τ b j l is. inl (ap (λ t. (t τ).place b) (sym same.table) ∙ is);
     attached = omega (arith, same.attached);
     current = omega (arith, same.current);
-    live = λ s τ is l. ap (λ slot. slot s) (sym same.slot) ∙ is;
+    live = λ s τ is l. ap (λ slot. unretired (slot s)) (sym same.slot) ∙ is;
     there = λ τ l was. there_same G G' same τ (was (omega (arith, l, same.attached)));
     pages = λ p τ is. ap (λ page. page p) same.page ∙ is;
   }
 
   pub tables_stay : (M : Memory) (G G' : Ghost) → Whole env mix M G → SameTables G G' → PassesStay env mix G G'
       → TablesStay env mix G G'
-  tables_stay M G G' whole same passes = record {
-    grow = same_grow G G' same;
-    passed = Passed-stays env mix M G G' whole (same_grow G G' same) passes;
-  }
+  tables_stay M G G' whole same = all_stay env mix M G G' whole (same_grow G G' same)
 
   -- who has nodes doesn't matter for tables, nor what buckets and ports have, nor who has raised the count
   pub same_tables : (G : Ghost) (bucket : ℕ → Bucket) (node : ℕ → Owner) (bound : ℕ → List ℕ) (raised : ℕ
@@ -224,10 +222,11 @@ module _ (env : Env) (mix : ℕ → ℕ → ℕ → ℕ) where
 
   -- ---- what a caller has of tables, and the work
 
-  -- the store is to no word of a table's, of a slot's, of the map of pages, and not to the work lock
+  -- the store is to no word of a table's, of a slot's, of the map of pages, to no section word, and not to the work lock
   pub record IsNoTableWord (a : Address) : Type 0 where
     pub current : CurrentTable ≢ a
     pub work : WorkLock ≢ a
+    pub sections : (c : ℕ) → Section c ≢ a
     pub slots : (s : ℕ) (w : SlotWord) → Slot s w ≢ a
     pub pages : (i : ℕ) → PageMap i ≢ a
 
@@ -239,12 +238,16 @@ module _ (env : Env) (mix : ℕ → ℕ → ℕ → ℕ) where
       → SlotsStay M M'
   slots_stay M M' a v write apart s w l is = write.others (Slot s w) (l, is) (apart.slots s w)
 
+  -- so do those that are kept there, and all section words
+  pub no_section : (a : Address) → IsNoTableWord a → IsNoSectionWord a
+  no_section a apart = record { own = apart.sections; kept = λ s c. apart.slots s (LoadedSection c) }
+
   pub holdings_stay : (c : ℕ) (M M' : Memory) (G G' : Ghost) → SameTables G G' → SlotsStay M M'
       → HoldingsStay env mix c M G M' G'
   holdings_stay c M M' G G' same words = record {
-    slots = λ s is. ap (λ slot. slot s) same.slot ∙ is;
+    slots = λ s is. ap (λ slot. slot s) same.slot;
     slot_words = λ s w has is. words s w has.within is;
-    no_slot = λ s is. ap (λ slot. slot s) (sym same.slot) ∙ is;
+    no_slot = λ s is. ap (λ slot. slot_holder (slot s)) (sym same.slot) ∙ is;
     pages = λ p is. ap (λ page. page p) same.page ∙ is;
     no_page = λ p is. ap (λ page. page p) (sym same.page) ∙ is;
   }
@@ -255,12 +258,23 @@ module _ (env : Env) (mix : ℕ → ℕ → ℕ → ℕ) where
     pub entries : (j entry : ℕ) → (G.bucket j).out ≡ Some entry → G'.node entry ≡ G.node entry
     pub chains : (n j : ℕ) → G.node n ≡ Leaving j → chain_of M' n ≡ chain_of M n
 
-  pub work_stays : (c : ℕ) (M M' : Memory) (G G' : Ghost) → SameTables G G' → EntriesStay M G M' G'
-      → G.worker ≡ Some c → WorkStays env mix c M G M' G'
-  work_stays c M M' G G' same stay works = record {
+  -- a table is untouched where all are
+  pub untouched : (τ : ℕ) (G G' : Ghost) → SameTables G G' → IsUntouched env mix τ G G'
+  untouched τ G G' same = record {
+    table = ap (λ t. t τ) same.table;
+    pages = λ p.
+        let page : G'.page p ≡ G.page p = ap (λ page. page p) same.page in ((λ is. sym page ∙ is), (λ is. page ∙ is));
+  }
+
+  pub work_stays : (c : ℕ) (M M' : Memory) (G G' : Ghost) → SameTables G G' → EntriesStay M G M' G' → SlotsStay M M'
+      → SectionsStay env mix M G M' G' → G.worker ≡ Some c → WorkStays env mix c M G M' G'
+  work_stays c M M' G G' same stay slots sections works = record {
     worker = same.worker ∙ works;
     current = same.current;
-    left = λ s τ is l. ap (λ slot. slot s) same.slot ∙ is;
+    left = λ s has l. ap (λ slot. slot s) same.slot;
+    kept = λ s d l m. slots s (LoadedSection d) l m;
+    sections = sections;
+    over = λ τ l over. untouched τ G G' same;
     emptied = λ more j table is. stay.emptied j is;
     entries = stay.entries;
     chains = stay.chains;
@@ -281,10 +295,10 @@ module _ (env : Env) (mix : ℕ → ℕ → ℕ → ℕ) where
   -- where buckets and nodes have whom they had, a caller knows what it knew
   pub Rely-same : (c : ℕ) (M M' : Memory) (G G' : Ghost) → Whole env mix M G → SameTables G G'
       → G'.bucket ≡ G.bucket → G'.node ≡ G.node → G'.bound ≡ G.bound → G'.raised c ≡ G.raised c
-      → UsedStay M G M' → ChainsStay env mix c M G M' → SlotsStay M M'
+      → UsedStay M G M' → ChainsStay env mix c M G M' → SlotsStay M M' → SectionsStay env mix M G M' G'
       → ((n : ℕ) (w : NodeWord) → HasNode env mix c G n → M' (Node n w) ≡ M (Node n w))
       → Rely env mix c M G M' G'
-  Rely-same c M M' G G' whole same buckets nodes bound raised words chains slots own = record {
+  Rely-same c M M' G G' whole same buckets nodes bound raised words chains slots sections own = record {
     tables = tables_stay M G G' whole same (passes_same M G G' whole (record {
       armed = λ j d is. ap (λ b. (b j).armed) (sym buckets) ∙ is;
       out = λ j. ap (λ b. (b j).out) buckets;
@@ -303,7 +317,7 @@ module _ (env : Env) (mix : ℕ → ℕ → ℕ → ℕ) where
     unbound = λ port τ j is. ap (λ b. b port) bound ∙ is.unbound;
     holdings = holdings_stay c M M' G G' same slots;
     work = work_stays c M M' G G' same (entries_stay M M' G G' whole words (λ n used. ap (λ o. o n) nodes)
-        (λ j is. subst (λ b. IsEmptied env mix (b j)) (sym buckets) is));
+        (λ j is. subst (λ b. IsEmptied env mix (b j)) (sym buckets) is)) slots sections;
     no_work = λ is. sym same.worker ∙ is;
     no_node = λ n h. ap (λ o. o n) (sym nodes) ∙ h;
     no_lock = λ j h. ap (λ b. (b j).holder) (sym buckets) ∙ h;
@@ -322,6 +336,7 @@ module _ (env : Env) (mix : ℕ → ℕ → ℕ → ℕ) where
   still d M G whole = record {
     whole = whole;
     others = λ c ne. Rely-same c M M G G whole (same_tables G G.bucket G.node G.bound G.raised) refl refl
-        refl refl (unwritten_words M G) (λ j n m h i b. refl) (λ s w l is. refl) (λ n w has. refl);
+        refl refl (unwritten_words M G) (λ j n m h i b. refl) (λ s w l is. refl) (λ e τ l since. (since, refl))
+        (λ n w has. refl);
     stale = stale_none M G G (same_owners G G refl);
   }

@@ -2,7 +2,7 @@
 -- page and slot, which table each slot has, which nodes each bucket has, and which nodes each port is bound to.
 -- It stands in no definition of a run. The invariant says that there is such a ghost after each event.
 use Rattle.std.proofs.Common.{◌≡◌, ◌≢◌, ◌⊎◌, ℕ, ◌/◌, List, [], ◌∷◌, refl, sym, ap, ◌∙◌, inl, inr, Bool, true, false, cond, Option, Some, None, ◌==◌}
-use Rattle.std.specs.Prelude.{◌+◌, ◌*◌, ◌%◌, ◌&&◌, if◌then◌else◌}
+use Rattle.std.specs.Prelude.{◌+◌, ◌*◌, ◌%◌, ◌≤◌, ◌&&◌, if◌then◌else◌}
 use Rattle.std.specs.Int.{bit_at}
 use Rattle.std.proofs.lemmas.Bool.{cases_eq, eqb-true, eq-eqb}
 use Rattle.rht_words.specs.Links.{entry_of}
@@ -119,17 +119,20 @@ pub data PageOwner : Type 0 where
   PageHeld : ℕ → PageOwner
   PageOf : ℕ → PageOwner
 
--- who has a slot: nobody, a caller that took it, or a table, which is in use or retired
+-- Who has a slot: nobody; a caller that took it; a table, which is in use, is being retired, or is retired; or the caller that gives back
+-- what was such a table's
 pub data SlotOwner : Type 0 where
   SlotFree : SlotOwner
   SlotHeld : ℕ → SlotOwner
   Live : ℕ → SlotOwner
+  Retiring : ℕ → SlotOwner
   Retired : ℕ → SlotOwner
+  Back : ℕ → SlotOwner
 
 -- Tables by the order in which they were attached, how many there were, and which of them is the current one. Buckets by the
 -- index of their word among those of all pages, nodes, pages and slots by their numbers, what is bound by ports, and for each
 -- caller whether it has raised the count of ports for a node that it hasn't linked yet, or has still to
--- lower it for one that it has taken out
+-- lower it for one that it has taken out; and of each that has its read section open, which table was the current one when it was opened
 pub record Ghost : Type 0 where
   pub table : ℕ → Table
   pub attached : ℕ
@@ -141,13 +144,16 @@ pub record Ghost : Type 0 where
   pub slot : ℕ → SlotOwner
   pub worker : Option ℕ
   pub raised : ℕ → Bool
+  pub from : ℕ → Option ℕ
 
 -- the state word of a slot
 abbrev pub state_word : SlotOwner → ℕ
 state_word SlotFree = 0
 state_word (SlotHeld c) = 1
 state_word (Live τ) = 1
+state_word (Retiring τ) = 2
 state_word (Retired τ) = 2
+state_word (Back c) = 2
 
 -- 1 where a lock is held
 abbrev pub lock_bit : Option ℕ → ℕ
@@ -244,18 +250,61 @@ abbrev pub has_table : SlotOwner → Bool
 has_table SlotFree = false
 has_table (SlotHeld c) = false
 has_table (Live τ) = true
+has_table (Retiring τ) = true
 has_table (Retired τ) = true
+has_table (Back c) = false
+
+-- the caller that has a slot: it took it, or gives it back
+abbrev pub slot_holder : SlotOwner → Option ℕ
+slot_holder SlotFree = None
+slot_holder (SlotHeld c) = Some c
+slot_holder (Live τ) = None
+slot_holder (Retiring τ) = None
+slot_holder (Retired τ) = None
+slot_holder (Back c) = Some c
+
+-- the table that has a slot and isn't retired
+abbrev pub unretired : SlotOwner → Option ℕ
+unretired SlotFree = None
+unretired (SlotHeld c) = None
+unretired (Live τ) = Some τ
+unretired (Retiring τ) = Some τ
+unretired (Retired τ) = None
+unretired (Back c) = None
 
 -- the table that has a slot; some table where none has
 abbrev pub table_of_slot : SlotOwner → ℕ
 table_of_slot SlotFree = 0
 table_of_slot (SlotHeld c) = 0
 table_of_slot (Live τ) = τ
+table_of_slot (Retiring τ) = τ
 table_of_slot (Retired τ) = τ
+table_of_slot (Back c) = 0
+
+-- such a table has the slot
+pub unretired-has : (o : SlotOwner) (τ : ℕ) → unretired o ≡ Some τ → (has_table o ≡ true) × (table_of_slot o ≡ τ)
+unretired-has (Live σ) τ is = (refl, let same : σ ≡ τ = cc in same)
+unretired-has (Retiring σ) τ is = (refl, let same : σ ≡ τ = cc in same)
+unretired-has _ τ is = absurd (cc)
+
+-- who has a slot is one caller, and then no table has it
+pub held-no_table : (o : SlotOwner) (c : ℕ) → slot_holder o ≡ Some c → has_table o ≡ false
+held-no_table (SlotHeld d) c is = refl
+held-no_table (Back d) c is = refl
+held-no_table _ c is = absurd (cc)
 
 -- which of the tables has the slot
 abbrev pub index_at : Ghost → ℕ → ℕ
 index_at G slot = table_of_slot (G.slot slot)
+
+-- a section that was opened while this table was the current one comes to that one
+abbrev pub IsSince : Option ℕ → ℕ → Type 0
+IsSince None τ = ⊥
+IsSince (Some low) τ = low ≤ τ
+
+-- no open section comes to the table
+abbrev pub IsOver : Ghost → ℕ → Type 0
+IsOver G τ = (d : ℕ) → IsSince (G.from d) τ → ⊥
 
 -- the node is some port's first
 pub record HasSeat (G : Ghost) (n : ℕ) : Type 0 where
@@ -383,6 +432,10 @@ with_owner G n owner = record G { node = put G.node n owner }
 -- a caller that has raised the count, or has no longer
 abbrev pub with_raised : Ghost → ℕ → Bool → Ghost
 with_raised G d now = record G { raised = put G.raised d now }
+
+-- a caller that has opened its section, or closed it
+abbrev pub with_from : Ghost → ℕ → Option ℕ → Ghost
+with_from G d from = record G { from = put G.from d from }
 
 -- a slot with another owner
 abbrev pub with_slot : Ghost → ℕ → SlotOwner → Ghost

@@ -1,9 +1,9 @@
 -- What a caller knows in each state: what that means of the words and the ghost, and that it has nothing more.
 -- It speaks of words and ghosts on which the caller holds the right, or which nobody changes.
-use Rattle.std.proofs.Common.{◌≡◌, ◌≢◌, ◌⊎◌, ℕ, ◌+◌, ◌/◌, ◌%◌, ◌<◌, ◌≤◌, List, [], ◌∷◌, length, Option, Some, None, Bool, true, false}
+use Rattle.std.proofs.Common.{◌≡◌, ◌≢◌, ◌⊎◌, refl, ℕ, ◌+◌, ◌*◌, ◌/◌, ◌%◌, ◌<◌, ◌≤◌, List, [], ◌∷◌, length, Option, Some, None, Bool, true, false, arith}
 use Rattle.std.specs.Prelude.{IfSome}
 use Rattle.rht_words.specs.declared.env.Env.{Env}
-use Rattle.rht_words.specs.Places.{Slot, ShapeWord, SeedWord, FutureWord, SerialWord, Node, ChainLink, KeyWord, OwnerWord, ListLink, IsBucketPlace}
+use Rattle.rht_words.specs.Places.{Section, Slot, ShapeWord, SeedWord, FutureWord, SerialWord, LoadedSection, Node, ChainLink, KeyWord, OwnerWord, ListLink, IsBucketPlace}
 use Rattle.rht_words.specs.Shapes.{unpacked, size_of}
 use Rattle.rht_words.specs.Ports.{owner_of}
 use Rattle.rht_words.specs.Links.{head_of}
@@ -12,16 +12,49 @@ use Rattle.rht_words.proofs.Memory.{Memory}
 use Rattle.rht_words.specs.Members.{In}
 use Rattle.rht_words.specs.declared.machine.Start.TheVariants as starts
 use Rattle.rht_nest.specs.Tables.{is_nested, table_pages, table_seed}
-use Rattle.rht_nest.specs.Place.{PlaceModel, nested_place, entered}
-use Rattle.rht_ghost.proofs.Theory.Ghosts.{Bucket, NodeHeld, Leaving, Middle, PageHeld, PageOf, SlotHeld, Live, Ghost, is_taken_by}
-use Rattle.rht_ghost.proofs.Theory.Wholes.{AreRetired, chain_of, key_of, place_at, word_index, hash_in, home, pages_of, MovesNone, moves_none, IsFurther, Whole, IsAt}
+use Rattle.rht_nest.specs.Place.{PlaceModel, nested_place, entered, is_deep}
+use Rattle.rht_ghost.proofs.Theory.Ghosts.{has_entries, Bucket, NodeHeld, Leaving, Middle, PageHeld, PageOf, SlotHeld, Live, Retiring, Retired, Back, slot_holder, Ghost, is_taken_by, IsSince, IsOver}
+use Rattle.rht_ghost.proofs.Theory.Wholes.{AreRetired, chain_of, key_of, place_at, word_index, hash_in, home, pages_of, MovesNone, moves_none, IsFurther, Whole, IsAt, AreThereFrom, there_behind}
 use Rattle.rht_ghost.proofs.Theory.Passed.{NoKey, Passed}
-use Rattle.rht_ghost.proofs.Theory.Knowns.{knows_plain, Armed, KnownAim, NoAim, Onward, From, Beyond, KnownRehash, KnownPlace, Follows, Nears, Faces, InBucket, Bare, Aims, LeavesBehind, AtEntry, AtHome, AtNode, AtTail, Brings, Collected, CollectedTo, CutsOut, Differing, Differs, Empties, FirstLink, Found, HasBrought, HasMade, HasPages, HasTaken, InList, InSlot, IsAmong, IsCollected, IsCollectedTo, IsCutOut, IsLeading, IsLeadingTo, IsOtherOwner, IsOwnersNode, IsPromoting, Known, KnownBucket, KnownEntry, KnownList, KnownMaking, KnownNode, KnownSlot, KnownTable, KnownWork, Leads, LeadsTo, Listing, Locks, LocksTakenOut, MakesNothing, Matching, Member, Missed, NoWork, Nowhere, OnWay, Passes, Promotes, Replaces, Rooted, Shaped, Stands, StandsAt, StandsInList, Succeeds, TakenOut, TakesOut, Unlocked, Unlocks, WithShape, Works, last_of}
+use Rattle.rht_ghost.proofs.Theory.Knowns.{knows_plain, Armed, KnownAim, NoAim, Onward, From, Beyond, KnownRehash, KnownPlace, Follows, Nears, Faces, InBucket, Bare, Aims, LeavesBehind, AtEntry, AtHome, AtNode, AtTail, Brings, Collected, CollectedTo, CutsOut, Differing, Differs, Empties, FirstLink, Found, HasBrought, HasKept, HasLoadedWord, HasMade, HasPages, HasTaken, InList, InSlot, IsAmong, IsCollected, IsCollectedTo, IsCutOut, IsLeading, IsLeadingTo, IsOtherOwner, IsOwnersNode, IsPromoting, Known, KnownBucket, KnownEntry, KnownList, KnownMaking, KnownNode, KnownSlot, KnownTable, KnownWork, Leads, LeadsTo, Listing, Locks, LocksTakenOut, MakesNothing, Matching, Member, Missed, NoWork, Nowhere, OnWay, Passes, Promotes, Replaces, Rooted, Shaped, Stands, StandsAt, StandsInList, Succeeds, TakenOut, TakesOut, Unlocked, Unlocks, Works, last_of, Asks, Compares, KnownGiving, Over, InRun, AtTop, AtLeaf, ClearsLeaf, ClearsTop, GivesBack, HasBack}
 use Rattle.rht_ghost.proofs.Theory.Ways.{first_page, entries_in, IsNestedShape}
 
 -- the caller does the work, and each table before the current one that has a slot is retired, but for the one in this slot
 abbrev pub DoesWork : ℕ → Ghost → Option ℕ → Type 0
 DoesWork c G slot = (G.worker ≡ Some c) × AreRetired G slot
+
+pub since-later : (from : Option ℕ) (τ σ : ℕ) → τ ≤ σ → IsSince from τ → IsSince from σ
+since-later None τ σ more since = since
+since-later (Some low) τ σ more since = omega (arith, since, more)
+
+-- in its section a caller may come to the tables from the one on that was current when it was opened, and out of it to none
+abbrev pub ReadsFrom : Bool → Option ℕ → ℕ → Type 0
+ReadsFrom false None current = Unit {0}
+ReadsFrom false (Some low) current = ⊥
+ReadsFrom true None current = ⊥
+ReadsFrom true (Some low) current = low ≤ current
+
+pub ReadsFrom-later : (section : Bool) (from : Option ℕ) (current later : ℕ) → current ≤ later → ReadsFrom section from current
+    → ReadsFrom section from later
+ReadsFrom-later false None current later more is = tt
+ReadsFrom-later false (Some low) current later more is = is
+ReadsFrom-later true None current later more is = is
+ReadsFrom-later true (Some low) current later more is = omega (arith, is, more)
+
+-- out of it there is none
+pub outside-none : (from : Option ℕ) (current : ℕ) → ReadsFrom false from current → from ≡ None
+outside-none None current reads = refl
+outside-none (Some low) current reads = absurd reads
+
+-- in it there is one
+pub inside-some : (from : Option ℕ) (current : ℕ) → ReadsFrom true from current → (first : ℕ) × (from ≡ Some first)
+inside-some None current reads = absurd reads
+inside-some (Some low) current reads = (low, refl)
+
+-- and it comes to the current one
+pub since-current : (from : Option ℕ) (current : ℕ) → ReadsFrom true from current → IsSince from current
+since-current None current reads = reads
+since-current (Some low) current reads = reads
 
 module _ (env : Env) (mix : ℕ → ℕ → ℕ → ℕ) where
   -- ---- what it means
@@ -41,13 +74,19 @@ module _ (env : Env) (mix : ℕ → ℕ → ℕ → ℕ) where
     pub owner : IfSome known.owner (λ value. M (Node known.node OwnerWord) ≡ value)
     pub list : IfSome known.list (λ value. M (Node known.node ListLink) ≡ value)
 
-  -- a table has this slot, and none of those before it binds the port
-  pub record IsPassing (G : Ghost) (port slot : ℕ) : Type 0 where
+  -- a table has this slot, to which the caller's section comes
+  pub record IsMet (c : ℕ) (G : Ghost) (slot : ℕ) : Type 0 where
     pub at : IsAt G slot
+    pub since : IsSince (G.from c) at.table
+
+  -- and none of those before it binds the port
+  pub record IsPassing (c : ℕ) (G : Ghost) (port slot : ℕ) : Type 0 where
+    pub at : IsAt G slot
+    pub since : IsSince (G.from c) at.table
     pub passed : Passed env mix G port at.table
 
-  pub record IsShaped (G : Ghost) (port slot shape : ℕ) : Type 0 where
-    pub passing : IsPassing G port slot
+  pub record IsShaped (c : ℕ) (G : Ghost) (port slot shape : ℕ) : Type 0 where
+    pub passing : IsPassing c G port slot
     pub shape_is : (G.table passing.at.table).shape ≡ shape
 
   -- behind the entry with which the way to the bucket with this number begins is a page of entries, and the way stands at one of these
@@ -67,8 +106,13 @@ module _ (env : Env) (mix : ℕ → ℕ → ℕ → ℕ) where
     pub attached : τ + 1 < G.attached
     pub slot_is : (G.table (τ + 1)).slot ≡ next
 
-  abbrev pub next_at : (G : Ghost) (τ next : ℕ) → IsRightBehind G τ next → IsAt G next
-  next_at G τ next behind = record { table = τ + 1; attached = behind.attached; slot_is = behind.slot_is }
+  abbrev pub next_at : (G : Ghost) (τ next : ℕ) → AreThereFrom G τ → IsRightBehind G τ next → IsAt G next
+  next_at G τ next on behind = record {
+    table = τ + 1;
+    attached = behind.attached;
+    slot_is = behind.slot_is;
+    on = there_behind G τ on;
+  }
 
   -- the table is nested, so that the way to the bucket with this number leads over entries, at one of which it stands
   pub record IsWayIn (G : Ghost) (number τ : ℕ) (place : PlaceModel) : Type 0 where
@@ -80,30 +124,24 @@ module _ (env : Env) (mix : ℕ → ℕ → ℕ → ℕ) where
   IsWayTo G port τ place = IsWayIn G (hash_in env mix G port τ) τ place
 
   -- none of the tables before binds the port, and the table behind may be known
-  pub record IsOnWay (G : Ghost) (port slot shape : ℕ) (place : PlaceModel) (early : Option ℕ) : Type 0 where
-    pub shaped : IsShaped G port slot shape
+  pub record IsOnWay (c : ℕ) (G : Ghost) (port slot shape : ℕ) (place : PlaceModel) (early : Option ℕ) : Type 0 where
+    pub shaped : IsShaped c G port slot shape
     pub to : IsWayTo G port shaped.passing.at.table place
     pub behind : IfSome early (IsRightBehind G shaped.passing.at.table)
 
-  pub record IsAtHome (G : Ghost) (port slot : ℕ) (shape : Option ℕ) (place : ℕ) : Type 0 where
-    pub passing : IsPassing G port slot
+  pub record IsAtHome (c : ℕ) (G : Ghost) (port slot : ℕ) (shape : Option ℕ) (place : ℕ) : Type 0 where
+    pub passing : IsPassing c G port slot
     pub shape_is : IfSome shape (λ s. (G.table passing.at.table).shape ≡ s)
     pub bucket : IsBucketPlace env.geometry place
     pub here : home env mix G port passing.at.table ≡ Some (word_index env mix place)
 
-  -- a table has this slot, and this shape
-  pub record HasShape (G : Ghost) (slot shape : ℕ) : Type 0 where
-    pub at : IsAt G slot
-    pub shape_is : (G.table at.table).shape ≡ shape
-
-  abbrev pub TableMeans : Ghost → KnownTable → Type 0
-  TableMeans G Nowhere = Unit {0}
-  TableMeans G (InSlot slot) = IsAt G slot
-  TableMeans G (WithShape slot shape) = HasShape G slot shape
-  TableMeans G (Passes port slot) = IsPassing G port slot
-  TableMeans G (Shaped port slot shape) = IsShaped G port slot shape
-  TableMeans G (OnWay port slot shape place early) = IsOnWay G port slot shape place early
-  TableMeans G (AtHome port slot shape place) = IsAtHome G port slot shape place
+  abbrev pub TableMeans : ℕ → Ghost → KnownTable → Type 0
+  TableMeans c G Nowhere = Unit {0}
+  TableMeans c G (InSlot slot) = IsMet c G slot
+  TableMeans c G (Passes port slot) = IsPassing c G port slot
+  TableMeans c G (Shaped port slot shape) = IsShaped c G port slot shape
+  TableMeans c G (OnWay port slot shape place early) = IsOnWay c G port slot shape place early
+  TableMeans c G (AtHome port slot shape place) = IsAtHome c G port slot shape place
 
   -- the caller has locked the bucket, in which it may be armed, and out of which an entry may be on its way; or neither is so
   pub record HasLock (c : ℕ) (G : Ghost) (place word : ℕ) : Type 0 where
@@ -304,11 +342,18 @@ module _ (env : Env) (mix : ℕ → ℕ → ℕ → ℕ) where
     pub run : (p : ℕ) → first_page shape ≤ p → p < first_page shape + table_pages (unpacked shape)
         → G.page p ≡ PageHeld c
 
+  -- the caller gives back what was a table's: the slot and these pages are its own
+  pub record IsBack (c : ℕ) (G : Ghost) (slot : ℕ) (pages : List ℕ) : Type 0 where
+    pub within : slot < 8
+    pub back : G.slot slot ≡ Back c
+    pub mine : ArePagesMine c G pages
+
   abbrev pub MakingMeans : ℕ → Memory → Ghost → KnownMaking → Type 0
   MakingMeans c M G MakesNothing = Unit {0}
   MakingMeans c M G (HasPages pages) = ArePagesMine c G pages
   MakingMeans c M G (HasTaken slot pages) = IsTaken c M G slot pages
   MakingMeans c M G (HasMade slot shape) = IsMade c M G slot shape
+  MakingMeans c M G (HasBack slot pages) = IsBack c G slot pages
 
   -- ---- the work
 
@@ -446,6 +491,84 @@ module _ (env : Env) (mix : ℕ → ℕ → ℕ → ℕ) where
     pub out : IsOutOf c G root at entry
     pub further : IsFurther env mix G entry.node
 
+  -- A table is being retired, and of each of so many callers the section word is kept in its slot, where the caller's section comes to
+  -- the table.
+  pub record IsKeeping (M : Memory) (G : Ghost) (slot count : ℕ) : Type 0 where
+    pub within : slot < 8
+    pub table : ℕ
+    pub retiring : G.slot slot ≡ Retiring table
+    pub before : table < G.current
+    pub kept : (d : ℕ) → d < count → IsSince (G.from d) table → M (Slot slot (LoadedSection d)) ≡ M (Section d)
+
+  -- and this is the word of the next caller, where that one's section comes to it
+  pub record IsLoaded (M : Memory) (G : Ghost) (slot count word : ℕ) : Type 0 where
+    pub keeping : IsKeeping M G slot count
+    pub loaded : IsSince (G.from count) keeping.table → word ≡ M (Section count)
+
+  -- ---- tables that it gives back
+
+  -- a retired table has this slot, and no open section of a caller before this one comes to it
+  pub record IsAsking (G : Ghost) (slot count : ℕ) : Type 0 where
+    pub table : ℕ
+    pub retired : G.slot slot ≡ Retired table
+    pub before : (d : ℕ) → d < count → IsSince (G.from d) table → ⊥
+
+  -- and this word was kept for that one
+  pub record IsComparing (M : Memory) (G : Ghost) (slot count kept : ℕ) : Type 0 where
+    pub asking : IsAsking G slot count
+    pub among : count < 16
+    pub kept_is : M (Slot slot (LoadedSection count)) ≡ kept
+
+  -- no open section comes to it at all
+  pub record IsOverAt (G : Ghost) (slot : ℕ) : Type 0 where
+    pub table : ℕ
+    pub retired : G.slot slot ≡ Retired table
+    pub over : IsOver G table
+
+  -- it is flat, and has so many pages from this one on
+  pub record IsRunOver (G : Ghost) (slot first pages : ℕ) : Type 0 where
+    pub going : IsOverAt G slot
+    pub flat : is_nested (G.table going.table).shape ≡ false
+    pub first_is : first_page (G.table going.table).shape ≡ first
+    pub pages_are : pages_of env mix (G.table going.table).shape ≡ pages
+
+  -- these entries of a page lead to no page
+  abbrev pub AreBare : Ghost → ℕ → ℕ → ℕ → Type 0
+  AreBare G τ page count = (i : ℕ) → i < count → (G.table τ).entry (64 * page + i) ≡ None
+
+  -- it is nested, and has this shape; and the entries of its top page before this one lead to no page
+  pub record IsTakenDown (G : Ghost) (slot shape top : ℕ) : Type 0 where
+    pub going : IsOverAt G slot
+    pub shape_is : (G.table going.table).shape ≡ shape
+    pub nested : is_nested shape ≡ true
+    pub bare : AreBare G going.table (first_page shape) top
+
+  -- this one leads to a page of entries, of which those before this one lead to no page
+  pub record IsAtLeaf (G : Ghost) (slot shape top page leaf : ℕ) : Type 0 where
+    pub down : IsTakenDown G slot shape top
+    pub deep : is_deep shape ≡ true
+    pub leads : (G.table down.going.table).entry (64 * first_page shape + top) ≡ Some page
+    pub bare : AreBare G down.going.table page leaf
+
+  -- and that one leads to this page
+  pub record IsClearingLeaf (G : Ghost) (slot shape top page leaf below : ℕ) : Type 0 where
+    pub at : IsAtLeaf G slot shape top page leaf
+    pub leads_on : (G.table at.down.going.table).entry (64 * page + leaf) ≡ Some below
+
+  -- the entry of the top page leads to a page of which no entry leads to a page, if it has entries
+  pub record IsClearingTop (G : Ghost) (slot shape top page : ℕ) : Type 0 where
+    pub down : IsTakenDown G slot shape top
+    pub leads : (G.table down.going.table).entry (64 * first_page shape + top) ≡ Some page
+    pub bare : has_entries ((G.table down.going.table).part page) ≡ true → AreBare G down.going.table page 64
+
+  abbrev pub GivingMeans : Ghost → ℕ → KnownGiving → Type 0
+  GivingMeans G slot Over = IsOverAt G slot
+  GivingMeans G slot (InRun first pages) = IsRunOver G slot first pages
+  GivingMeans G slot (AtTop shape top) = IsTakenDown G slot shape top
+  GivingMeans G slot (AtLeaf shape top page leaf) = IsAtLeaf G slot shape top page leaf
+  GivingMeans G slot (ClearsLeaf shape top page leaf below) = IsClearingLeaf G slot shape top page leaf below
+  GivingMeans G slot (ClearsTop shape top page) = IsClearingTop G slot shape top page
+
   -- what is known while the caller does the work
   pub record IsWorking (c : ℕ) (G : Ghost) (slot : Option ℕ) (More : Type 0) : Type 0 where
     pub works : DoesWork c G slot
@@ -468,10 +591,15 @@ module _ (env : Env) (mix : ℕ → ℕ → ℕ → ℕ) where
   WorkMeans c M G (Brings root at entry place word) = IsWorking c G None (IsBringing c M G root at entry place word)
   WorkMeans c M G (TakesOut root at entry place word) = IsWorking c G None (IsTakenOut c M G root at entry place word)
   WorkMeans c M G (HasBrought root at entry) = IsWorking c G None (IsBrought c G root at entry)
+  WorkMeans c M G (HasKept slot count) = IsWorking c G (Some slot) (IsKeeping M G slot count)
+  WorkMeans c M G (HasLoadedWord slot count word) = IsWorking c G (Some slot) (IsLoaded M G slot count word)
+  WorkMeans c M G (Asks slot count) = IsWorking c G None (IsAsking G slot count)
+  WorkMeans c M G (Compares slot count kept) = IsWorking c G None (IsComparing M G slot count kept)
+  WorkMeans c M G (GivesBack slot giving) = IsWorking c G None (GivingMeans G slot giving)
 
   pub record Means (c : ℕ) (M : Memory) (G : Ghost) (known : Known) : Type 0 where
     pub node : IfSome known.node (NodeMeans c M G)
-    pub table : TableMeans G known.table
+    pub table : TableMeans c G known.table
     pub bucket : BucketMeans c M G known.bucket
     pub making : MakingMeans c M G known.making
     pub work : WorkMeans c M G known.work
@@ -479,24 +607,25 @@ module _ (env : Env) (mix : ℕ → ℕ → ℕ → ℕ) where
   -- ---- what it has, and nothing more
 
   -- The caller has no other node than this, has locked no other bucket than these, and has raised the count where this says so. It has no
-  -- other slot and pages than these, and does the work only where this says so.
+  -- other slot and pages than these, does the work only where this says so, and is in its section exactly where this does.
   pub record HasOnly (c : ℕ) (G : Ghost) (node lock second : Option ℕ) (raised : Bool) (slot : Option ℕ)
-      (pages : List ℕ) (worker : Bool) : Type 0 where
+      (pages : List ℕ) (worker section : Bool) : Type 0 where
     pub nodes : (n : ℕ) → G.node n ≡ NodeHeld c → node ≡ Some n
     pub locks : (j : ℕ) → (G.bucket j).holder ≡ Some c
         → (lock ≡ Some (place_at env mix j)) ⊎ (second ≡ Some (place_at env mix j))
     pub raising : G.raised c ≡ raised
-    pub slots : (s : ℕ) → G.slot s ≡ SlotHeld c → slot ≡ Some s
+    pub slots : (s : ℕ) → slot_holder (G.slot s) ≡ Some c → slot ≡ Some s
     pub pages_in : (p : ℕ) → G.page p ≡ PageHeld c → In p pages
     pub works : G.worker ≡ Some c → worker ≡ true
+    pub reads : ReadsFrom section (G.from c) G.current
 
   abbrev pub Only : {A : Type 0} → ℕ → Ghost → held.Held A → Type 0
-  Only c G h = HasOnly c G h.node h.lock h.second h.raised h.slot h.pages h.worker
+  Only c G h = HasOnly c G h.node h.lock h.second h.raised h.slot h.pages h.worker h.section
 
   -- so one that doesn't do the work has no entry on its way
   pub idle_moves_none : (M : Memory) (G : Ghost) → Whole env mix M G → (c : ℕ) {has lock second : Option ℕ}
-      {raised : Bool} {slot : Option ℕ} {pages : List ℕ}
-      → HasOnly c G has lock second raised slot pages false → MovesNone env mix G c
+      {raised : Bool} {slot : Option ℕ} {pages : List ℕ} {section : Bool}
+      → HasOnly c G has lock second raised slot pages false section → MovesNone env mix G c
   idle_moves_none M G whole c only =
       moves_none env mix M G whole c (λ works. let both = only.works works in cc)
 
@@ -510,7 +639,7 @@ module _ (env : Env) (mix : ℕ → ℕ → ℕ → ℕ) where
   -- what is known of a call that makes no table and doesn't do the work
   pub plainly : {A : Type 0} {c : ℕ} {h : held.Held A} {node : Option KnownNode} {table : KnownTable} {bucket : KnownBucket}
       {M : Memory} {G : Ghost}
-      → Only c G h → IfSome node (NodeMeans c M G) → TableMeans G table → BucketMeans c M G bucket
+      → Only c G h → IfSome node (NodeMeans c M G) → TableMeans c G table → BucketMeans c M G bucket
       → Knowing c h (knows_plain node table bucket) M G
   plainly only node table bucket =
       record { only = only; means = record { node = node; table = table; bucket = bucket; making = tt; work = tt } }

@@ -10,20 +10,22 @@ use Rattle.rht_words.proofs.Memory.{Memory}
 use Rattle.rht_words.specs.Members.{In}
 use Rattle.rht_words.proofs.Members.{in-middle}
 use Rattle.rht_nest.specs.Place.{PlaceModel}
-use Rattle.rht_ghost.proofs.Theory.Ghosts.{Ghost, seat-used}
+use Rattle.rht_ghost.proofs.Theory.Ghosts.{Ghost, seat-used, slot_holder, has_table, index_at, table_of_slot}
 use Rattle.rht_ghost.proofs.Theory.Wholes.{retired_stay, key_of, word_index, home, out-seated, Whole, IsAt, current-there}
-use Rattle.rht_ghost.proofs.Theory.Passed.{place-table, TableStays, TablesGrow, table_at-grows, home-stays, at-stays}
-use Rattle.rht_ghost.proofs.Theory.Knowns.{KnownAim, NoAim, Onward, From, Beyond, KnownRehash, KnownPlace, Follows, Nears, Faces, KnownEntry, InBucket, Bare, AtEntry, AtTail, Aims, Brings, Empties, LeavesBehind, HasBrought, HasMade, HasPages, HasTaken, Known, KnownMaking, KnownWork, MakesNothing, NoWork, Rooted, TakesOut, Works, last_of}
-use Rattle.rht_ghost.proofs.Theory.Knowledge.{AimMeans, IsWayIn, IsRooted, IsFollowed, IsNearing, IsFacing, IsLeftBehind, IsNext, IsInBucket, IsBare, IsAim, IsAiming, IsWorking, HasLock, HasOnly, HasSlot, IsBringing, IsBrought, IsEmptying, IsEntry, IsOutOf, IsRoot, IsTail, IsTakenOut, IsTarget, Knowing, MakingMeans, Means, WorkMeans, bucket_at}
+use Rattle.rht_ghost.proofs.Theory.Passed.{place-table, IsSameTable, GrowsFrom, table_at-from, home-from, at-from}
+use Rattle.rht_ghost.proofs.Theory.Knowns.{KnownAim, NoAim, Onward, From, Beyond, KnownRehash, KnownPlace, Follows, Nears, Faces, KnownEntry, InBucket, Bare, AtEntry, AtTail, Aims, Brings, Empties, LeavesBehind, HasBrought, HasKept, HasLoadedWord, Asks, Compares, GivesBack, HasBack, HasMade, HasPages, HasTaken, Known, KnownMaking, KnownWork, MakesNothing, NoWork, Rooted, TakesOut, Works, last_of}
+use Rattle.rht_ghost.proofs.Theory.Knowledge.{AimMeans, IsWayIn, IsRooted, IsFollowed, IsNearing, IsFacing, IsLeftBehind, IsKeeping, IsLoaded, IsNext, IsInBucket, IsBare, IsAim, IsAiming, IsWorking, HasLock, HasOnly, ReadsFrom, ReadsFrom-later, HasSlot, IsBringing, IsBrought, IsEmptying, IsEntry, IsOutOf, IsRoot, IsTail, IsTakenOut, IsTarget, Knowing, MakingMeans, Means, TableMeans, WorkMeans, bucket_at}
+use Rattle.rht_ghost.proofs.Theory.SectionFrames.{open-within}
 use Rattle.rht_ghost.proofs.Theory.Reliance.{HoldingsStay, Rely, WordStays, WorkStays, members_used}
-use Rattle.rht_ghost.proofs.Theory.WaysStay.{IsWayIn-stay}
+use Rattle.rht_ghost.proofs.Theory.WaysStay.{IsWayIn-from}
+use Rattle.rht_ghost.proofs.Theory.GivingStays.{asking_stays, comparing_stays, GivingMeans-stay}
 use Rattle.rht_ghost.proofs.Theory.KnowledgeStays.{BucketMeans-own, NodeMeans-stay, TableMeans-stay}
 
 module _ (env : Env) (mix : ℕ → ℕ → ℕ → ℕ) where
   -- of a table that the caller makes: where its slots and pages stay
   module _ (c : ℕ) (M M' : Memory) (G G' : Ghost) (stay : HoldingsStay env mix c M G M' G') where
     HasSlot-stay : (slot : ℕ) → HasSlot env mix c G slot → HasSlot env mix c G' slot
-    HasSlot-stay slot has = record { within = has.within; mine = stay.slots slot has.mine }
+    HasSlot-stay slot has = record { within = has.within; mine = stay.slots slot (ap slot_holder has.mine) ∙ has.mine }
 
     slot-word-stays : (slot : ℕ) (word : SlotWord) (known : Option ℕ) → HasSlot env mix c G slot → IsSlotWord word
         → IfSome known (λ value. M (Slot slot word) ≡ value) → IfSome known (λ value. M' (Slot slot word) ≡ value)
@@ -56,10 +58,17 @@ module _ (env : Env) (mix : ℕ → ℕ → ℕ → ℕ) where
       fits = means.fits;
       run = λ p from below. stay.pages p (means.run p from below);
     }
+    MakingMeans-stay (HasBack slot pages) means = record {
+      within = means.within;
+      back = stay.slots slot (ap slot_holder means.back) ∙ means.back;
+      mine = λ p i. stay.pages p (means.mine p i);
+    }
 
   -- what a caller that does the work needs of a step, its own or another's, so that it knows still what it knew
   pub record KeepsWork (c : ℕ) (M : Memory) (G : Ghost) (M' : Memory) (G' : Ghost) : Type 0 where
-    pub grow : TablesGrow env mix G G'
+    pub low : ℕ
+    pub current : low ≤ G.current
+    pub grow : GrowsFrom env mix low G G'
     pub locks : (j : ℕ) → (G.bucket j).holder ≡ Some c → G'.bucket j ≡ G.bucket j
     pub keys : WordStays env mix KeyWord M G M'
     pub work : G.worker ≡ Some c → WorkStays env mix c M G M' G'
@@ -71,8 +80,11 @@ module _ (env : Env) (mix : ℕ → ℕ → ℕ → ℕ) where
     stays = keeps.work works
 
     -- what is said of the current table stays
-    root-stays : TableStays G.page G.current (G.table G.current) (G'.table G'.current)
+    root-stays : IsSameTable (G.table G.current) (G'.table G'.current)
     root-stays = rw stays.current (keeps.grow.tables G.current whole.tables.current_in)
+
+    root-place : (number j : ℕ) → (G.table G.current).place number ≡ Some j → (G'.table G'.current).place number ≡ Some j
+    root-place number j is = rw stays.current (keeps.grow.places G.current number j whole.tables.current_in keeps.current is)
 
     within-stays : (number : ℕ) → number ≤ size_of (unpacked (G.table G.current).shape)
         → number ≤ size_of (unpacked (G'.table G'.current).shape)
@@ -108,7 +120,7 @@ module _ (env : Env) (mix : ℕ → ℕ → ℕ → ℕ) where
       followed = IsFollowed-stay root.root root.future is.followed;
       shape_is = root-stays.shape ∙ is.shape_is;
       within = within-stays count is.within;
-      each = λ b j l at. elim (keeps.grow.placed G.current b j whole.tables.current_in
+      each = λ b j l at. elim (keeps.grow.placed G.current b j whole.tables.current_in keeps.current
           (ap (λ τ. (G'.table τ).place b) (sym stays.current) ∙ at)) [
             | inl was ↦
                 let there = place-table env mix M G whole G.current b j (current-there env mix whole.tables)
@@ -139,11 +151,11 @@ module _ (env : Env) (mix : ℕ → ℕ → ℕ → ℕ) where
     AimMeans-stay NoAim is = tt
     AimMeans-stay Onward is = omega (arith, is, stays.current, keeps.grow.attached)
     AimMeans-stay (From slot) is = record {
-      at = at-stays env mix G G' keeps.grow slot is.at;
+      at = at-from env mix keeps.low G G' keeps.grow slot is.at (let low = keeps.current in omega (arith, low, is.from));
       from = omega (arith, is.from, stays.current);
     }
     AimMeans-stay (Beyond slot shape seed) is = record {
-      at = at-stays env mix G G' keeps.grow slot is.at;
+      at = at-from env mix keeps.low G G' keeps.grow slot is.at (let low = keeps.current in omega (arith, low, is.later));
       later = omega (arith, is.later, stays.current);
       shape_is = known-shape_stays slot shape is.at is.shape_is;
       flat = is.flat;
@@ -157,8 +169,32 @@ module _ (env : Env) (mix : ℕ → ℕ → ℕ → ℕ) where
     IsLeftBehind-stay : (slot : ℕ) → IsLeftBehind env mix G slot → IsLeftBehind env mix G' slot
     IsLeftBehind-stay slot is = record {
       table = is.table;
-      live = stays.left slot is.table is.live (omega (arith, is.before));
+      live = stays.left slot (ap has_table is.live)
+          (let index : index_at G slot ≡ is.table = ap table_of_slot is.live in omega (arith, index, is.before)) ∙ is.live;
       before = omega (arith, is.before, stays.current);
+    }
+
+    -- so do the words that it has kept, and the one that it has loaded
+    IsKeeping-stay : (slot count : ℕ) → IsKeeping env mix M G slot count → IsKeeping env mix M' G' slot count
+    IsKeeping-stay slot count is = record {
+      within = is.within;
+      table = is.table;
+      retiring = stays.left slot (ap has_table is.retiring)
+          (let index : index_at G slot ≡ is.table = ap table_of_slot is.retiring in omega (arith, index, is.before)) ∙ is.retiring;
+      before = omega (arith, is.before, stays.current);
+      kept = λ d l since.
+          let was = stays.sections d is.table is.before since in
+          stays.kept slot d is.within (open-within env mix M G whole.sections d is.table was.0) ∙ is.kept d l was.0
+          ∙ sym was.1;
+    }
+
+    IsLoaded-stay : (slot count word : ℕ) → IsLoaded env mix M G slot count word → IsLoaded env mix M' G' slot count word
+    unfolding IsKeeping-stay
+    IsLoaded-stay slot count word is = record {
+      keeping = IsKeeping-stay slot count is.keeping;
+      loaded = λ since.
+          let was = stays.sections count is.keeping.table is.keeping.before since in
+          is.loaded was.0 ∙ sym was.1;
     }
 
     IsNearing-stay : (root : KnownRehash) (number : ℕ) (place : PlaceModel) → IsNearing env mix G root number place
@@ -167,7 +203,7 @@ module _ (env : Env) (mix : ℕ → ℕ → ℕ → ℕ) where
       empties = IsEmptying-stay root number is.empties;
       below = below-stays number is.below;
       to = subst (λ τ. IsWayIn env mix G' number τ place) (sym stays.current)
-          (IsWayIn-stay env mix G G' keeps.grow number G.current place whole.tables.current_in is.to);
+          (IsWayIn-from env mix keeps.low G G' keeps.grow number G.current place whole.tables.current_in keeps.current is.to);
     }
 
     IsFacing-stay : (root : KnownRehash) (number place : ℕ) → IsFacing env mix G root number place
@@ -176,7 +212,7 @@ module _ (env : Env) (mix : ℕ → ℕ → ℕ → ℕ) where
       empties = IsEmptying-stay root number is.empties;
       below = below-stays number is.below;
       bucket = is.bucket;
-      here = root-stays.places number (word_index env mix place) is.here;
+      here = root-place number (word_index env mix place) is.here;
     }
 
     IsNext-stay : (root : KnownRehash) (at : KnownPlace) → IsNext env mix c G root at → IsNext env mix c G' root at
@@ -184,7 +220,7 @@ module _ (env : Env) (mix : ℕ → ℕ → ℕ → ℕ) where
       empties = IsEmptying-stay root at.number is.empties;
       below = below-stays at.number is.below;
       lock = lock-stays at.place at.word is.lock;
-      here = root-stays.places at.number (word_index env mix at.place) is.here;
+      here = root-place at.number (word_index env mix at.place) is.here;
     }
 
     IsInBucket-stay : (root : KnownRehash) (at : KnownPlace) (aim : KnownAim) → IsInBucket env mix c G root at aim
@@ -227,7 +263,8 @@ module _ (env : Env) (mix : ℕ → ℕ → ℕ → ℕ) where
       later = omega (arith, is.later, stays.current);
       attached = omega (arith, is.attached, keeps.grow.attached);
       here = ap (λ k. home env mix G' k is.table) key
-          ∙ home-stays env mix G G' keeps.grow (key_of M entry) is.table (word_index env mix place) is.attached is.here;
+          ∙ home-from env mix keeps.low G G' keeps.grow (key_of M entry) is.table (word_index env mix place) is.attached
+          (let low = keeps.current in omega (arith, low, is.later)) is.here;
     }
 
     IsTarget-stay : (entry place word : ℕ) → key_of M' entry ≡ key_of M entry → IsTarget env mix c M G entry place word
@@ -301,7 +338,7 @@ module _ (env : Env) (mix : ℕ → ℕ → ℕ → ℕ) where
               arith,
               is.further.later,
               stays.current,
-              table_at-grows env mix G G' keeps.grow bucket,
+              table_at-from env mix keeps.low G G' keeps.grow bucket (let low = keeps.current in omega (arith, low, is.further.later)),
             );
           };
         }
@@ -353,13 +390,23 @@ module _ (env : Env) (mix : ℕ → ℕ → ℕ → ℕ) where
         still-working means (λ works. IsTakenOut-stay c M M' G G' whole keeps works root at entry place word)
     WorkMeans-stay (HasBrought root at entry) means =
         still-working means (λ works. IsBrought-stay c M M' G G' whole keeps works root at entry)
+    WorkMeans-stay (HasKept slot count) means =
+        still-working means (λ works. IsKeeping-stay c M M' G G' whole keeps works slot count)
+    WorkMeans-stay (HasLoadedWord slot count word) means =
+        still-working means (λ works. IsLoaded-stay c M M' G G' whole keeps works slot count word)
+    WorkMeans-stay (Asks slot count) means =
+        still-working means (λ works. asking_stays env mix c M M' G G' whole (keeps.work works) slot count)
+    WorkMeans-stay (Compares slot count kept) means =
+        still-working means (λ works. comparing_stays env mix c M M' G G' whole (keeps.work works) slot count kept)
+    WorkMeans-stay (GivesBack slot giving) means =
+        still-working means (λ works. GivingMeans-stay env mix c M M' G G' whole (keeps.work works) slot giving)
 
   -- what is known outlives a step of anybody else, and so does that there is nothing more
   module _ (c : ℕ) (M M' : Memory) (G G' : Ghost) (whole : Whole env mix M G) (rely : Rely env mix c M G M' G') where
-    pub Means-rely : (known : Known) → Means env mix c M G known → Means env mix c M' G' known
-    Means-rely known means = record {
+    pub Means-rely : (known : Known) → TableMeans env mix c G' known.table → Means env mix c M G known → Means env mix c M' G' known
+    Means-rely known table means = record {
       node = NodeMeans-stay env mix c M M' G G' rely.nodes rely.words known.node means.node;
-      table = TableMeans-stay env mix c M M' G G' rely.tables known.table means.table;
+      table = table;
       bucket = BucketMeans-own env mix c M M' G G' (members_used env mix M G whole) rely.locks rely.lists rely.chains rely.keys
           rely.owners rely.taken rely.tables rely.unbound known.bucket
           (λ node has. (
@@ -369,26 +416,39 @@ module _ (env : Env) (mix : ℕ → ℕ → ℕ → ℕ) where
           )) means.bucket;
       making = MakingMeans-stay c M M' G G' rely.holdings known.making means.making;
       work = WorkMeans-stay c M M' G G' whole
-          (record { grow = rely.tables.grow; locks = rely.locks; keys = rely.keys; work = rely.work }) known.work
+          (record {
+            low = rely.tables.low;
+            current = rely.tables.current;
+            grow = rely.tables.grow;
+            locks = rely.locks;
+            keys = rely.keys;
+            work = rely.work;
+          }) known.work
           means.work;
     }
 
     pub Only-rely : (has lock second : Option ℕ) (raised : Bool) (slot : Option ℕ) (pages : List ℕ)
-        (worker : Bool) → HasOnly env mix c G has lock second raised slot pages worker
-        → HasOnly env mix c G' has lock second raised slot pages worker
-    Only-rely has lock second raised slot pages worker only = record {
+        (worker was now : Bool) → ReadsFrom now (G'.from c) G'.current
+        → HasOnly env mix c G has lock second raised slot pages worker was
+        → HasOnly env mix c G' has lock second raised slot pages worker now
+    Only-rely has lock second raised slot pages worker was now reads only = record {
       nodes = λ n held. only.nodes n (rely.no_node n held);
       locks = λ j holds. only.locks j (rely.no_lock j holds);
       raising = rely.raised ∙ only.raising;
       slots = λ s held. only.slots s (rely.holdings.no_slot s held);
       pages_in = λ p held. only.pages_in p (rely.holdings.no_page p held);
       works = λ works. only.works (rely.no_work works);
+      reads = reads;
     }
 
+  -- so all that it knows does, where it has its section open, or not, as before
   pub Knowing-rely : {A : Type 0} → (c : ℕ) (M M' : Memory) (G G' : Ghost) (h : held.Held A)
-      (known : Known) → Whole env mix M G
+      (known : Known) → Whole env mix M G → G'.from c ≡ G.from c
       → Rely env mix c M G M' G' → Knowing env mix c h known M G → Knowing env mix c h known M' G'
-  Knowing-rely c M M' G G' h known whole rely knows = record {
-    only = Only-rely c M M' G G' whole rely h.node h.lock h.second h.raised h.slot h.pages h.worker knows.only;
-    means = Means-rely c M M' G G' whole rely known knows.means;
+  Knowing-rely c M M' G G' h known whole from rely knows = record {
+    only = Only-rely c M M' G G' whole rely h.node h.lock h.second h.raised h.slot h.pages h.worker h.section h.section
+        (subst (λ f. ReadsFrom h.section f G'.current) (sym from)
+        (ReadsFrom-later h.section (G.from c) G.current G'.current rely.tables.grow.current knows.only.reads)) knows.only;
+    means = Means-rely c M M' G G' whole rely known (TableMeans-stay env mix c M M' G G' from rely.tables known.table knows.means.table)
+        knows.means;
   }

@@ -1,5 +1,5 @@
 -- What is known of nodes, tables and buckets outlives a step that leaves what it speaks of.
-use Rattle.std.proofs.Common.{◌≡◌, ℕ, ◌/◌, ◌<◌, ◌≤◌, List, [], ◌∷◌, ◌++◌, Option, Some, None, refl, sym, ◌∙◌, ap, subst, inl, inr}
+use Rattle.std.proofs.Common.{◌≡◌, ℕ, ◌/◌, ◌≤◌, List, [], ◌∷◌, ◌++◌, Option, Some, None, refl, sym, ◌∙◌, ap, subst, inl, inr, arith}
 use Rattle.std.specs.Prelude.{IfSome}
 use Rattle.rht_words.specs.declared.env.Env.{Env}
 use Rattle.rht_words.specs.Places.{Node, NodeWord, ChainLink, KeyWord, OwnerWord, ListLink}
@@ -7,13 +7,13 @@ use Rattle.rht_words.specs.Ports.{owner_of}
 use Rattle.rht_words.proofs.Memory.{Memory}
 use Rattle.rht_words.specs.Members.{In}
 use Rattle.rht_words.proofs.Members.{In-append_left, In-append_cases, in-middle}
-use Rattle.rht_ghost.proofs.Theory.Ghosts.{NodeHeld, Ghost, is_taken_by}
+use Rattle.rht_ghost.proofs.Theory.Ghosts.{NodeHeld, Ghost, IsSince, is_taken_by, table_at, table_of_page}
 use Rattle.rht_ghost.proofs.Theory.Wholes.{chain_of, key_of, word_index, IsAt}
-use Rattle.rht_ghost.proofs.Theory.Passed.{NoKey, NoKey-same, home-stays, at-stays}
-use Rattle.rht_ghost.proofs.Theory.Knowns.{Armed, AtHome, AtNode, Collected, CollectedTo, CutsOut, Differing, Differs, FirstLink, Found, InList, InSlot, IsAmong, IsLeading, IsOwnersNode, KnownBucket, KnownList, KnownNode, KnownTable, Leads, LeadsTo, Listing, Locks, LocksTakenOut, Matching, Member, Missed, NoOwner, Nowhere, OnWay, Passes, Promotes, Replaces, Shaped, Stands, StandsInList, Succeeds, TakenOut, Unlocked, Unlocks, WithShape, first_of_list, owners_of}
+use Rattle.rht_ghost.proofs.Theory.Passed.{NoKey, NoKey-same, home-from, at-from}
+use Rattle.rht_ghost.proofs.Theory.Knowns.{Armed, AtHome, AtNode, Collected, CollectedTo, CutsOut, Differing, Differs, FirstLink, Found, InList, InSlot, IsAmong, IsLeading, IsOwnersNode, KnownBucket, KnownList, KnownNode, KnownTable, Leads, LeadsTo, Listing, Locks, LocksTakenOut, Matching, Member, Missed, NoOwner, Nowhere, OnWay, Passes, Promotes, Replaces, Shaped, Stands, StandsInList, Succeeds, TakenOut, Unlocked, Unlocks, first_of_list, owners_of}
 use Rattle.rht_ghost.proofs.Theory.Knowledge.{ArmedFor, BucketMeans, HasLock, HasNode, HasTakenOut, HoldsLock, IsArmed, IsDiffering, IsFound, IsInList, IsMember, IsPassing, IsPlain, IsPlainList, IsReaching, IsShaped, IsStanding, ListMeans, NodeMeans, TableMeans, bucket_at}
-use Rattle.rht_ghost.proofs.Theory.WaysStay.{IsWayTo-stay, IsRightBehind-stay}
-use Rattle.rht_ghost.proofs.Theory.Reliance.{ChainsStay, MembersUsed, TablesStay, WordStays}
+use Rattle.rht_ghost.proofs.Theory.WaysStay.{IsWayTo-from, IsRightBehind-from}
+use Rattle.rht_ghost.proofs.Theory.Reliance.{ChainsStay, MembersUsed, TablesStay, since-low, WordStays}
 
 module _ (env : Env) (mix : ℕ → ℕ → ℕ → ℕ) where
   -- ---- what is known outlives a step that leaves what it speaks of
@@ -40,12 +40,19 @@ module _ (env : Env) (mix : ℕ → ℕ → ℕ → ℕ) where
         list = known-stays known.node ListLink known.list means.has means.list;
       }
 
-    -- of tables: where these stay
-    module _ (stay : TablesStay env mix G G') where
-      abbrev IsPassing-stay : (port slot : ℕ) → IsPassing env mix G port slot → IsPassing env mix G' port slot
+    -- of tables: where these stay, and so does to which of them the caller's section comes
+    module _ (from : G'.from c ≡ G.from c) (stay : TablesStay env mix G G') where
+      since-stays : (τ : ℕ) → IsSince (G.from c) τ → IsSince (G'.from c) τ
+      since-stays τ = subst (λ f. IsSince f τ) (sym from)
+
+      reaches : (τ : ℕ) → IsSince (G.from c) τ → stay.low ≤ τ
+      reaches = since-low env mix stay c
+
+      abbrev IsPassing-stay : (port slot : ℕ) → IsPassing env mix c G port slot → IsPassing env mix c G' port slot
       IsPassing-stay port slot means = record {
-        at = at-stays env mix G G' stay.grow slot means.at;
-        passed = stay.passed port means.at.table means.passed;
+        at = at-from env mix stay.low G G' stay.grow slot means.at (reaches means.at.table means.since);
+        since = since-stays means.at.table means.since;
+        passed = stay.passed port means.at.table (reaches means.at.table means.since) means.passed;
       }
 
       shape-stays : (slot : ℕ) (shape : Option ℕ) (at : IsAt G slot)
@@ -53,18 +60,17 @@ module _ (env : Env) (mix : ℕ → ℕ → ℕ → ℕ) where
       shape-stays slot None at is = tt
       shape-stays slot (Some s) at is = (stay.grow.tables at.table at.attached).shape ∙ is
 
-      abbrev IsShaped-stay : (port slot shape : ℕ) → IsShaped env mix G port slot shape → IsShaped env mix G' port slot shape
+      abbrev IsShaped-stay : (port slot shape : ℕ) → IsShaped env mix c G port slot shape → IsShaped env mix c G' port slot shape
       IsShaped-stay port slot shape means = record {
         passing = IsPassing-stay port slot means.passing;
         shape_is = shape-stays slot (Some shape) means.passing.at means.shape_is;
       }
 
-      pub TableMeans-stay : (known : KnownTable) → TableMeans env mix G known → TableMeans env mix G' known
+      pub TableMeans-stay : (known : KnownTable) → TableMeans env mix c G known → TableMeans env mix c G' known
       TableMeans-stay Nowhere means = tt
-      TableMeans-stay (InSlot slot) means = at-stays env mix G G' stay.grow slot means
-      TableMeans-stay (WithShape slot shape) means = record {
-        at = at-stays env mix G G' stay.grow slot means.at;
-        shape_is = shape-stays slot (Some shape) means.at means.shape_is;
+      TableMeans-stay (InSlot slot) means = record {
+        at = at-from env mix stay.low G G' stay.grow slot means.at (reaches means.at.table means.since);
+        since = since-stays means.at.table means.since;
       }
       TableMeans-stay (Passes port slot) means = IsPassing-stay port slot means
       TableMeans-stay (Shaped port slot shape) means = IsShaped-stay port slot shape means
@@ -72,8 +78,9 @@ module _ (env : Env) (mix : ℕ → ℕ → ℕ → ℕ) where
           let passing = means.shaped.passing in
           record {
             shaped = IsShaped-stay port slot shape means.shaped;
-            to = IsWayTo-stay env mix G G' stay.grow port passing.at.table place passing.at.attached means.to;
-            behind = IsRightBehind-stay env mix G G' stay.grow passing.at.table early means.behind;
+            to = IsWayTo-from env mix stay.low G G' stay.grow port passing.at.table place passing.at.attached
+                (reaches passing.at.table passing.since) means.to;
+            behind = IsRightBehind-from env mix stay.low G G' stay.grow passing.at.table early means.behind;
           }
       TableMeans-stay (AtHome port slot shape place) means =
           let passing = means.passing in
@@ -81,7 +88,8 @@ module _ (env : Env) (mix : ℕ → ℕ → ℕ → ℕ) where
             passing = IsPassing-stay port slot passing;
             shape_is = shape-stays slot shape passing.at means.shape_is;
             bucket = means.bucket;
-            here = home-stays env mix G G' stay.grow port passing.at.table (word_index env mix place) passing.at.attached means.here;
+            here = home-from env mix stay.low G G' stay.grow port passing.at.table (word_index env mix place) passing.at.attached
+                (reaches passing.at.table passing.since) means.here;
           }
 
     -- of buckets: where those that it has locked stay, and the keys of nodes in chains
@@ -120,13 +128,16 @@ module _ (env : Env) (mix : ℕ → ℕ → ℕ → ℕ) where
       IsArmed-stay place word port is =
           let j = word_index env mix place in
           let armed = is.armed in
+          let reaches : stay.low ≤ is.table =
+          (let of : table_at G j ≡ is.table = ap table_of_page armed.of in
+          omega (arith, members.armed j c armed.armed, of, stay.current)) in
           record {
             lock = HasLock-stay place word is.lock;
             table = is.table;
             armed = record {
-              passed = stay.passed port is.table armed.passed;
-              here = home-stays env mix G G' stay.grow port is.table j armed.passed.attached armed.here;
-              of = stay.grow.pages (j / 64) is.table armed.of;
+              passed = stay.passed port is.table reaches armed.passed;
+              here = home-from env mix stay.low G G' stay.grow port is.table j armed.passed.attached reaches armed.here;
+              of = stay.grow.pages (j / 64) is.table reaches armed.of;
               armed = ap (λ b. b.armed) (locks j is.lock.holder) ∙ armed.armed;
               unbound = unbound port is.table j armed;
             };

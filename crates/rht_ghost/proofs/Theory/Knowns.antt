@@ -25,11 +25,10 @@ pub record KnownNode : Type 0 where
 -- Of the way to a port's bucket: nothing, or that none of the tables before the one in this slot binds the port; the table's
 -- shape; that the way to the bucket leads over entries, at which of them it stands, and which table is behind, where one is known to be; and at
 -- which place the port's bucket is, whether the shape is known or not.
--- Of a table, for whatever port: which slot it has, and its shape.
+-- Of a table, for whatever port: which slot it has.
 pub data KnownTable : Type 0 where
   Nowhere : KnownTable
   InSlot : ℕ → KnownTable
-  WithShape : ℕ → ℕ → KnownTable
   Passes : ℕ → ℕ → KnownTable
   Shaped : ℕ → ℕ → ℕ → KnownTable
   OnWay : ℕ → ℕ → ℕ → PlaceModel → Option ℕ → KnownTable
@@ -84,12 +83,13 @@ pub record KnownSlot : Type 0 where
   pub serial : Option ℕ
 
 -- Of a table that the caller makes: nothing; pages that it has taken without a slot; the slot that it has taken and its pages; or the slot, with the shape of a table that can be
--- attached.
+-- attached. Of one that it gives back: the slot, and the pages that it has still.
 pub data KnownMaking : Type 0 where
   MakesNothing : KnownMaking
   HasPages : List ℕ → KnownMaking
   HasTaken : KnownSlot → List ℕ → KnownMaking
   HasMade : ℕ → ℕ → KnownMaking
+  HasBack : ℕ → List ℕ → KnownMaking
 
 -- Of the table to which the work brings entries: nothing; that there is one behind the current one; the slot of one that isn't
 -- before the current one; or that of one behind it, and its shape and seed, where they are known.
@@ -116,11 +116,26 @@ pub record KnownEntry : Type 0 where
   pub node : ℕ
   pub before : Option ℕ
 
+-- Of a retired table to which no open section comes: nothing more; that it is flat, from which page on it has pages, and how many. That it
+-- is nested, its shape, and that the entries of its top page before this one lead to no page. That this entry leads to a page of entries,
+-- of which those before this one lead to no page; to which page this one leads. And that the entry of the top page leads to a page behind
+-- none of whose own entries there is a page.
+pub data KnownGiving : Type 0 where
+  Over : KnownGiving
+  InRun : ℕ → ℕ → KnownGiving
+  AtTop : ℕ → ℕ → KnownGiving
+  AtLeaf : ℕ → ℕ → ℕ → ℕ → KnownGiving
+  ClearsLeaf : ℕ → ℕ → ℕ → ℕ → ℕ → KnownGiving
+  ClearsTop : ℕ → ℕ → ℕ → KnownGiving
+
 -- Of the work that the caller does: none; that it does the work; the slot of the current table; that of the next one too; how many of the
 -- current table's buckets are emptied; and that the table in a slot was left behind. Of the next bucket: that the way to it leads over
 -- entries, and at which of them it stands; the place of its word; that it is locked; that it has no entry; that an entry is in it; and that
 -- this is the last one. Of that one: the place to which it goes; that this is locked, and its word was this before; that the entry is out
--- of its bucket, and its link leads to the first node of that place; and that it is in a table behind the current one.
+-- of its bucket, and its link leads to the first node of that place; and that it is in a table behind the current one. And that the table in
+-- a slot is being retired, and of how many callers the section word is kept there; and which one was loaded of the next caller.
+-- Of a retired table in this slot: that no open section of the callers before this one comes to it; which word was kept there for this one;
+-- and what is known of it once none comes to it.
 pub data KnownWork : Type 0 where
   NoWork : KnownWork
   Works : KnownWork
@@ -138,6 +153,11 @@ pub data KnownWork : Type 0 where
   Brings : KnownRehash → KnownPlace → KnownEntry → ℕ → ℕ → KnownWork
   TakesOut : KnownRehash → KnownPlace → KnownEntry → ℕ → ℕ → KnownWork
   HasBrought : KnownRehash → KnownPlace → KnownEntry → KnownWork
+  HasKept : ℕ → ℕ → KnownWork
+  HasLoadedWord : ℕ → ℕ → ℕ → KnownWork
+  Asks : ℕ → ℕ → KnownWork
+  Compares : ℕ → ℕ → ℕ → KnownWork
+  GivesBack : ℕ → KnownGiving → KnownWork
 
 -- what a caller knows in a state
 pub record Known : Type 0 where

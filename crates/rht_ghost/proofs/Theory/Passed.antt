@@ -12,7 +12,7 @@ use Rattle.rht_words.proofs.Memory.{Memory}
 use Rattle.rht_words.proofs.ShapeSizes.{IsSizeUpTo-size_of}
 use Rattle.rht_words.specs.Members.{In}
 use Rattle.rht_policy.specs.Mix.{bucket_of}
-use Rattle.rht_ghost.proofs.Theory.Ghosts.{Table, Bucket, blank_bucket, is_entry, Ghost, First, PageOwner, PageFree, PageHeld, PageOf, Live, seat_in, seat, seated, table_of_page, table_at, none-some, some-same}
+use Rattle.rht_ghost.proofs.Theory.Ghosts.{Table, Bucket, blank_bucket, is_entry, Ghost, First, PageOwner, PageFree, PageHeld, PageOf, unretired, seat_in, seat, seated, table_of_page, table_at, none-some, some-same}
 use Rattle.rht_ghost.proofs.Theory.Wholes.{key_of, home, hash_in, IsNoBucket, MovesNone, seated_at, Whole, IsThere, AreThereFrom, IsAt, force-there}
 use Rattle.rht_ghost.proofs.Theory.Entries.{IsWordOf, word_of, bucket-no_entry}
 
@@ -275,17 +275,20 @@ module _ (env : Env) (mix : ℕ → ℕ → ℕ → ℕ) where
 
   -- ---- what was passed is so still
 
-  -- Tables come, the current one is left behind, and what has been said of each table stays. From this one on
-  -- pages and buckets stay too, but that buckets get words whose pages were missing: each of these is blank
-  -- then.
+  -- Tables come, the current one is left behind, and what has been said of each table stays; one that isn't retired wasn't so.
+  -- From this one on those that are there stay, and one that comes is there; so do pages and buckets, but that buckets get words
+  -- whose pages were missing: each of these is blank then.
   pub record GrowsFrom (low : ℕ) (G G' : Ghost) : Type 0 where
     pub tables : (τ : ℕ) → τ < G.attached → IsSameTable (G.table τ) (G'.table τ)
     pub places : (τ b j : ℕ) → τ < G.attached → low ≤ τ → (G.table τ).place b ≡ Some j
         → (G'.table τ).place b ≡ Some j
     pub placed : (τ b j : ℕ) → τ < G.attached → low ≤ τ → (G'.table τ).place b ≡ Some j
         → ((G.table τ).place b ≡ Some j) ⊎ (G'.bucket j ≡ blank_bucket)
+    pub parts : (p τ : ℕ) → τ < G.attached → low ≤ τ → G.page p ≡ PageOf τ → (G'.table τ).part p ≡ (G.table τ).part p
     pub attached : G.attached ≤ G'.attached
     pub current : G.current ≤ G'.current
+    pub live : (s τ : ℕ) → unretired (G'.slot s) ≡ Some τ → τ < G.attached → unretired (G.slot s) ≡ Some τ
+    pub there : (τ : ℕ) → low ≤ τ → τ < G'.attached → (τ < G.attached → IsThere G τ) → IsThere G' τ
     pub pages : (p τ : ℕ) → low ≤ τ → G.page p ≡ PageOf τ → G'.page p ≡ PageOf τ
 
   -- a bind of the port is armed in this bucket
@@ -317,8 +320,24 @@ module _ (env : Env) (mix : ℕ → ℕ → ℕ → ℕ) where
         → WasOut G port n j ⊎ (seat G port ≡ Some j)
     pub seats : (port j : ℕ) → seat G' port ≡ Some j → WasSeated G port j ⊎ IsArmedFor G port j
 
+  pub less-grown : {a b d : ℕ} → a < b → b ≤ d → a < d
+  less-grown l m = omega (arith, l, m)
+
+  -- tables of which all behind them are there are so still
+  pub there_from-from : (low : ℕ) (G G' : Ghost) → GrowsFrom low G G' → (τ : ℕ) → low ≤ τ → AreThereFrom G τ → AreThereFrom G' τ
+  there_from-from low G G' grow τ from there σ later l = grow.there σ (omega (arith, from, later)) l (there σ later)
+
+  -- so the table that a slot has is known still
+  abbrev pub at-from : (low : ℕ) (G G' : Ghost) → GrowsFrom low G G' → (slot : ℕ) (at : IsAt G slot) → low ≤ at.table → IsAt G' slot
+  at-from low G G' grow slot at from = record {
+    table = at.table;
+    attached = less-grown at.attached grow.attached;
+    slot_is = (grow.tables at.table at.attached).slot ∙ at.slot_is;
+    on = there_from-from low G G' grow at.table from at.on;
+  }
+
   -- a bucket's table stays
-  table_at-from : (low : ℕ) (G G' : Ghost) → GrowsFrom low G G' → (j : ℕ) → low ≤ table_at G j
+  pub table_at-from : (low : ℕ) (G G' : Ghost) → GrowsFrom low G G' → (j : ℕ) → low ≤ table_at G j
       → table_at G j ≤ table_at G' j
   table_at-from low G G' grow j = go (G.page (j / 64)) refl
     where
@@ -331,7 +350,7 @@ module _ (env : Env) (mix : ℕ → ℕ → ℕ → ℕ) where
           omega (arith, same)
 
   -- a port has the number that it had, and the homes, and perhaps one more in a bucket that is blank
-  hash-from : (low : ℕ) (G G' : Ghost) → GrowsFrom low G G' → (port τ : ℕ) → τ < G.attached
+  pub hash-from : (low : ℕ) (G G' : Ghost) → GrowsFrom low G G' → (port τ : ℕ) → τ < G.attached
       → hash_in env mix G' port τ ≡ hash_in env mix G port τ
   hash-from low G G' grow port τ l =
       let same = grow.tables τ l in
@@ -412,37 +431,31 @@ module _ (env : Env) (mix : ℕ → ℕ → ℕ → ℕ) where
         → ((G.table τ).place b ≡ Some j) ⊎ (G'.bucket j ≡ blank_bucket)
     pub attached : G.attached ≤ G'.attached
     pub current : G.current ≤ G'.current
-    pub live : (s τ : ℕ) → G'.slot s ≡ Live τ → τ < G.attached → G.slot s ≡ Live τ
+    pub live : (s τ : ℕ) → unretired (G'.slot s) ≡ Some τ → τ < G.attached → unretired (G.slot s) ≡ Some τ
     pub there : (τ : ℕ) → τ < G'.attached → (τ < G.attached → IsThere G τ) → IsThere G' τ
     pub pages : (p τ : ℕ) → G.page p ≡ PageOf τ → G'.page p ≡ PageOf τ
 
-  pub less-grown : {a b d : ℕ} → a < b → b ≤ d → a < d
-  less-grown l m = omega (arith, l, m)
-
   -- so everything stays from the first table on
-  grows_from : (G G' : Ghost) → TablesGrow G G' → GrowsFrom 0 G G'
+  pub grows_from : (G G' : Ghost) → TablesGrow G G' → GrowsFrom 0 G G'
   grows_from G G' grow = record {
     tables = λ τ l.
         let stays = grow.tables τ l in
         record { slot = stays.slot; shape = stays.shape; seed = stays.seed; serial = stays.serial };
     places = λ τ b j l from. (grow.tables τ l).places b j;
     placed = λ τ b j l from. grow.placed τ b j l;
+    parts = λ p τ l from. (grow.tables τ l).parts p;
     attached = grow.attached;
     current = grow.current;
+    live = grow.live;
+    there = λ τ from. grow.there τ;
     pages = λ p τ from. grow.pages p τ;
   }
 
-  -- the table that a slot had is known by its index
-  abbrev pub at-stays : (G G' : Ghost) → TablesGrow G G' → (slot : ℕ) → IsAt G slot → IsAt G' slot
-  at-stays G G' grow slot at = record {
-    table = at.table;
-    attached = less-grown at.attached grow.attached;
-    slot_is = (grow.tables at.table at.attached).slot ∙ at.slot_is;
-  }
-
-  -- so tables of which all behind them are there are so still
   pub there_from-grows : (G G' : Ghost) → TablesGrow G G' → (τ : ℕ) → AreThereFrom G τ → AreThereFrom G' τ
-  there_from-grows G G' grow τ there σ from l = grow.there σ l (there σ from)
+  there_from-grows G G' grow τ = there_from-from 0 G G' (grows_from G G' grow) τ (omega arith)
+
+  abbrev pub at-stays : (G G' : Ghost) → TablesGrow G G' → (slot : ℕ) → IsAt G slot → IsAt G' slot
+  at-stays G G' grow slot at = at-from 0 G G' (grows_from G G' grow) slot at (omega arith)
 
   pub table_at-grows : (G G' : Ghost) → TablesGrow G G' → (j : ℕ) → table_at G j ≤ table_at G' j
   table_at-grows G G' grow j = table_at-from 0 G G' (grows_from G G' grow) j (omega arith)

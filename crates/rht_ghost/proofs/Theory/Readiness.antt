@@ -5,7 +5,7 @@ use Rattle.rht_words.specs.Links.{link_of, head_of}
 use Rattle.rht_words.specs.Places.{Slot, SeedWord, SerialWord, Node, ListLink}
 use Rattle.rht_words.specs.Members.{In}
 use Rattle.rht_words.proofs.Memory.{Memory}
-use Rattle.rht_ghost.proofs.Theory.Ghosts.{put, Bucket, Owner, First, seat_of, is_used, PageOwner, Ghost, table_at, has_bit, PageHeld, PageOf, is_entry, lock_bit}
+use Rattle.rht_ghost.proofs.Theory.Ghosts.{put, Bucket, Owner, First, seat_of, is_used, PageOwner, Ghost, table_at, has_bit, PageHeld, PageOf, IsSince, is_entry, lock_bit}
 use Rattle.rht_ghost.proofs.Theory.Wholes.{chain_of, key_of, place_at, MovesNone}
 use Rattle.rht_ghost.proofs.Theory.Knowledge.{HasNode, ArmedFor, IsMade}
 use Rattle.rht_ghost.proofs.Theory.Ways.{entered_table, IsInUse}
@@ -136,10 +136,11 @@ module _ (env : Env) (mix : ℕ → ℕ → ℕ → ℕ) where
     pub seed_is : M (Slot slot SeedWord) ≡ seed
     pub serial_is : M (Slot slot SerialWord) ≡ serial
 
-  -- What is known when a page is entered: the caller has it, and the word is an entry in use of a table.
+  -- What is known when a page is entered: the caller has it, and the word is an entry in use of a table, to which the caller's section comes.
   pub record IsEntering (d j p : ℕ) (G : Ghost) : Type 0 where
     pub within : j < 64 * env.geometry.pages
     pub entry : is_entry G j ≡ true
     pub used : IsInUse (G.table (table_at G j)).shape ((G.table (table_at G j)).part (j / 64)) (j % 64)
+    pub since : IsSince (G.from d) (table_at G j)
     pub among : p < env.geometry.pages
     pub mine : G.page p ≡ PageHeld d

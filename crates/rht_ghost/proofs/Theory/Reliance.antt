@@ -1,37 +1,69 @@
 -- What a caller can count on at a step of anybody else.
-use Rattle.std.proofs.Common.{◌≡◌, ℕ, ◌+◌, ◌<◌, List, [], ◌∷◌, Some, refl, ap, inl, inr}
+use Rattle.std.proofs.Common.{◌≡◌, ℕ, ◌+◌, ◌↔◌, true, ◌<◌, ◌≤◌, List, [], ◌∷◌, Option, Some, None, refl, ap, inl, inr, arith}
 use Rattle.rht_words.specs.declared.env.Env.{Env}
-use Rattle.rht_words.specs.Places.{Slot, SlotWord, IsSlotWord, Node, NodeWord, ChainLink, KeyWord, OwnerWord}
+use Rattle.rht_words.specs.Places.{Section, Slot, SlotWord, LoadedSection, IsSlotWord, Node, NodeWord, ChainLink, KeyWord, OwnerWord}
 use Rattle.rht_words.proofs.Memory.{Memory}
 use Rattle.rht_words.specs.Members.{In}
-use Rattle.rht_ghost.proofs.Theory.Ghosts.{NodeHeld, Leaving, PageHeld, SlotHeld, Live, Ghost, is_used, is_taken_by, IsUsed, seat-used, table_at}
+use Rattle.rht_ghost.proofs.Theory.Ghosts.{NodeHeld, Leaving, PageHeld, PageOf, slot_holder, has_table, index_at, IsSince, IsOver, Ghost, is_used, is_taken_by, IsUsed, seat-used, table_at}
 use Rattle.rht_ghost.proofs.Theory.Wholes.{chain_of, key_of, seated_at, Whole}
-use Rattle.rht_ghost.proofs.Theory.Passed.{Passed, TablesGrow}
+use Rattle.rht_ghost.proofs.Theory.Passed.{Passed, Passed-stays, PassesStay, TablesGrow, GrowsFrom, grows_from}
 use Rattle.rht_ghost.proofs.Theory.Knowledge.{ArmedFor, HasNode, HasSlot, IsEmptied}
 
 module _ (env : Env) (mix : ℕ → ℕ → ℕ → ℕ) where
   -- ---- what a caller can count on at a step of anybody else
 
-  -- the tables that there are stay what they are, others may come, and what was passed stays passed
+  -- From a table on that isn't behind the current one, nor behind one to which an open section may come, the tables that there are stay
+  -- what they are, others may come, and what was passed stays passed.
   pub record TablesStay (G G' : Ghost) : Type 0 where
-    pub grow : TablesGrow env mix G G'
-    pub passed : (port τ : ℕ) → Passed env mix G port τ → Passed env mix G' port τ
+    pub low : ℕ
+    pub current : low ≤ G.current
+    pub sections : (c first : ℕ) → G.from c ≡ Some first → low ≤ first
+    pub grow : GrowsFrom env mix low G G'
+    pub passed : (port τ : ℕ) → low ≤ τ → Passed env mix G port τ → Passed env mix G' port τ
+
+  -- a table to which a caller's section comes is one that stays
+  pub since-low : {G G' : Ghost} (stay : TablesStay G G') (c τ : ℕ) → IsSince (G.from c) τ → stay.low ≤ τ
+  since-low {G} {G'} stay c τ = go (G.from c) refl
+    where
+      go : (from : Option ℕ) → G.from c ≡ from → IsSince from τ → stay.low ≤ τ
+      go None is since = absurd since
+      go (Some first) is since = let low = stay.sections c first is in omega (arith, low, since)
+
+  -- so it is of an operation that gives back none
+  pub all_stay : (M : Memory) (G G' : Ghost) → Whole env mix M G → TablesGrow env mix G G' → PassesStay env mix G G' → TablesStay G G'
+  all_stay M G G' whole grow passes = record {
+    low = 0;
+    current = omega arith;
+    sections = λ c first is. omega arith;
+    grow = grows_from env mix G G' grow;
+    passed = λ port τ from. Passed-stays env mix M G G' whole grow passes port τ;
+  }
 
   -- the slots and the pages that it has, with the words of the slots; and nobody gives it any
   pub record HoldingsStay (c : ℕ) (M : Memory) (G : Ghost) (M' : Memory) (G' : Ghost) : Type 0 where
-    pub slots : (s : ℕ) → G.slot s ≡ SlotHeld c → G'.slot s ≡ SlotHeld c
+    pub slots : (s : ℕ) → slot_holder (G.slot s) ≡ Some c → G'.slot s ≡ G.slot s
     pub slot_words : (s : ℕ) (word : SlotWord) → HasSlot env mix c G s → IsSlotWord word
         → M' (Slot s word) ≡ M (Slot s word)
-    pub no_slot : (s : ℕ) → G'.slot s ≡ SlotHeld c → G.slot s ≡ SlotHeld c
+    pub no_slot : (s : ℕ) → slot_holder (G'.slot s) ≡ Some c → slot_holder (G.slot s) ≡ Some c
     pub pages : (p : ℕ) → G.page p ≡ PageHeld c → G'.page p ≡ PageHeld c
     pub no_page : (p : ℕ) → G'.page p ≡ PageHeld c → G.page p ≡ PageHeld c
 
-  -- what a caller that does the work can count on: nobody else makes another table the current one, retires one that was left behind, puts
-  -- anything into a bucket that it has emptied, or touches an entry that is on its way
+  -- the table is as it was, and has the same pages
+  pub record IsUntouched (τ : ℕ) (G G' : Ghost) : Type 0 where
+    pub table : G'.table τ ≡ G.table τ
+    pub pages : (p : ℕ) → (G'.page p ≡ PageOf τ) ↔ (G.page p ≡ PageOf τ)
+
+  -- What a caller that does the work can count on: nobody else makes another table the current one, gives a slot of one that was left behind to
+  -- anybody, or keeps section words in a slot. A section that comes to such a table did so before, and its word is the same; and nobody
+  -- touches a table to which none comes. Nobody puts anything into a bucket that it has emptied, or touches an entry that is on its way.
   pub record WorkStays (c : ℕ) (M : Memory) (G : Ghost) (M' : Memory) (G' : Ghost) : Type 0 where
     pub worker : G'.worker ≡ Some c
     pub current : G'.current ≡ G.current
-    pub left : (s τ : ℕ) → G.slot s ≡ Live τ → τ < G.current → G'.slot s ≡ Live τ
+    pub left : (s : ℕ) → has_table (G.slot s) ≡ true → index_at G s < G.current → G'.slot s ≡ G.slot s
+    pub kept : (s d : ℕ) → s < 8 → d < 16 → M' (Slot s (LoadedSection d)) ≡ M (Slot s (LoadedSection d))
+    pub sections : (d τ : ℕ) → τ < G.current → IsSince (G'.from d) τ
+        → IsSince (G.from d) τ × (M' (Section d) ≡ M (Section d))
+    pub over : (τ : ℕ) → τ < G.current → IsOver G τ → IsUntouched τ G G'
     pub emptied : G.current + 1 < G.attached → (j : ℕ) → table_at G j ≡ G.current → IsEmptied env mix (G.bucket j)
         → IsEmptied env mix (G'.bucket j)
     pub entries : (j entry : ℕ) → (G.bucket j).out ≡ Some entry → G'.node entry ≡ G.node entry
@@ -100,6 +132,8 @@ module _ (env : Env) (mix : ℕ → ℕ → ℕ → ℕ) where
   pub record MembersUsed (G : Ghost) : Type 0 where
     pub member : (j node : ℕ) → In node (G.bucket j).nodes → IsUsedNode G node
     pub bound : (port node : ℕ) → In node (G.bound port) → IsUsedNode G node
+    -- and a bucket in which a bind is armed is one of a table in force
+    pub armed : (j c : ℕ) → (G.bucket j).armed ≡ Some c → G.current ≤ table_at G j
 
   pub members_used : (M : Memory) (G : Ghost) → Whole env mix M G → MembersUsed G
   members_used M G whole = record {
@@ -107,4 +141,5 @@ module _ (env : Env) (mix : ℕ → ℕ → ℕ → ℕ) where
         let first = whole.owned.member j node i in
         ((whole.owned.first_at node j first).among, ap is_used first);
     bound = λ port node i. bound_used M G whole port (G.bound port) refl node i;
+    armed = λ j c is. (whole.moving.armed j c is).current;
   }

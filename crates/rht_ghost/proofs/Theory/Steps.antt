@@ -1,6 +1,7 @@
 -- What one operation of a caller makes of the words, the ghost, what its call holds, and what it knows.
-use Rattle.std.proofs.Common.{◌≡◌, ◌≢◌, ◌⊎◌, ◌↔◌, ℕ, suc, ◌+◌, ◌%◌, ◌<◌, ◌≤◌, List, [], ◌∷◌, map, Option, Some, None, Bool, true, false, refl, sym, ◌∙◌, ap, subst, inl, inr, arith}
+use Rattle.std.proofs.Common.{◌≡◌, ◌≢◌, ◌⊎◌, ◌↔◌, ℕ, suc, ◌+◌, ◌*◌, ◌%◌, ◌<◌, ◌≤◌, List, [], ◌∷◌, map, Option, Some, None, Bool, true, false, refl, sym, ◌∙◌, ap, subst, inl, inr, arith}
 use Rattle.std.specs.Int.{bit_at}
+use Rattle.std.proofs.lemmas.Bool.{cases_eq}
 use Rattle.std.proofs.lemmas.List.{set-get_or}
 use Rattle.rht_words.specs.declared.env.Env.{Env}
 use Rattle.rht_words.specs.declared.geometry.Geometry.{Geometry}
@@ -11,7 +12,7 @@ use Rattle.rht_words.specs.Links.{future_of, entry_of}
 use Rattle.rht_words.specs.Maps.{bit_of}
 use Rattle.rht_words.specs.Ports.{owner_of}
 use Rattle.rht_words.specs.Operations.{op_place, old_of, word_after, applied}
-use Rattle.rht_words.specs.Places.{CurrentTable, WorkLock, PortCount, NextSerial, Section, Slot, SlotWord, FutureWord, StateWord, PageMap, PageWord, Node, NodeWord, ChainLink, OwnerWord, nodes_at, pages_at, place_of, word_at}
+use Rattle.rht_words.specs.Places.{CurrentTable, WorkLock, PortCount, NextSerial, Section, Slot, SlotWord, FutureWord, StateWord, LoadedSection, PageMap, PageWord, Node, NodeWord, ChainLink, OwnerWord, nodes_at, pages_at, place_of, word_at}
 use Rattle.rht_words.specs.Members.{In}
 use Rattle.rht_words.proofs.Members.{count_below-same, in-middle}
 use Rattle.rht_words.proofs.Memory.{Memory}
@@ -21,13 +22,13 @@ use Rattle.rht_model.specs.Multimap.{Multimap, Agree}
 use Rattle.rht_model.specs.Answers.{Answer, is_change}
 use Rattle.rht_arena.specs.Laws.{map_place, map_bit, IsTaking}
 use Rattle.rht_words.specs.TableWords.{IsTableWord}
-use Rattle.rht_ghost.proofs.Theory.Ghosts.{put, put-all, Owner, Free, NodeHeld, First, Leaving, Taken, PageFree, PageHeld, SlotFree, SlotHeld, Ghost, is_taken_by, with_holder, with_armed, with_owner, with_raised, with_slot, has_bit, with_pages, made_table, with_table}
+use Rattle.rht_ghost.proofs.Theory.Ghosts.{put, put-same, put-other, put-all, Owner, Free, NodeHeld, First, Leaving, Taken, PageFree, PageHeld, SlotFree, SlotHeld, Ghost, is_taken_by, with_holder, with_armed, with_owner, with_raised, with_from, with_slot, has_bit, with_pages, made_table, with_table, IsSince, slot_holder, table_at}
 use Rattle.rht_ghost.proofs.Theory.Wholes.{place_at, outs, Whole}
 use Rattle.rht_ghost.proofs.Theory.Reliance.{bound_used}
 use Rattle.rht_ghost.proofs.Theory.Frames.{Made, still}
 use Rattle.rht_ghost.proofs.Theory.Answering.{outs_of, SaysStill-agree, KnowsEarly, KnowsEarly-agree, none_early, Says, IsRight, Tells, TellsOrRecalls, told-says, told-outs, told-right}
 use Rattle.rht_ghost.proofs.Theory.Readiness.{linked, IsReady, IsRebinding, IsArming, ArePagesOf, IsAttaching, IsEntering, Change, changed, entered}
-use Rattle.rht_ghost.proofs.Theory.Departures.{with_worker, published, retired, left, arrived, cut_off, CanLeave, CanArrive, CanCut, CanPublish, CanRetire}
+use Rattle.rht_ghost.proofs.Theory.Departures.{with_worker, published, retiring, retired, left, arrived, cut_off, withdrawn, taken_back, CanLeave, CanArrive, CanCut, CanPublish, CanRetire, CanKeep, CanSettle, CanWithdraw, CanTakeBack}
 
 -- What an operation does beside what it finds: nothing that others see, a node taken or given back, a lock taken or dropped,
 -- the count raised or lowered, a node linked for a port into a bucket, what a port is bound to changed, a node behind a port's
@@ -35,8 +36,9 @@ use Rattle.rht_ghost.proofs.Theory.Departures.{with_worker, published, retired, 
 -- of these bits of a word of the map taken or given back, the table in a slot attached that has this shape, seed and serial, or behind an
 -- entry a page entered. And what the work does: its lock taken or given back, that it begins to move entries, and the lock of a second bucket taken; an entry
 -- taken out of its bucket, brought into another one, and cut off from the first; the next table made the current one, and the table in
--- a slot retired. And the read section of a caller opened or closed, and
--- a node given back that a call of the caller had taken out
+-- a slot retired: first its state word says so, then this section word of this caller is kept in the slot, and at last the last one. An
+-- entry of a retired table cleared that leads to this page, and the table in a slot taken back, with the pages of these bits of a word of
+-- the map given back at once. And the read section of a caller opened or closed, and a node given back that a call of the caller had taken out
 pub data Move : Type 0 where
   Quiet : Move
   TakesNode : ℕ → Move
@@ -64,6 +66,10 @@ pub data Move : Type 0 where
   CutsOff : ℕ → ℕ → Option ℕ → Move
   Publishes : Move
   Retires : ℕ → Move
+  KeepsWord : ℕ → ℕ → ℕ → Move
+  Settles : ℕ → ℕ → ℕ → Move
+  Withdraws : ℕ → ℕ → Move
+  TakesBack : ℕ → ℕ → ℕ → Move
   Opens : ℕ → Move
   Closes : ℕ → Move
   ReturnsNode : ℕ → Move
@@ -322,6 +328,33 @@ module _ (g : Geometry) where
     pub moves : h.moving ≡ true
     pub holds : HoldsSame h h'
 
+  -- a section word is kept in a slot
+  pub record DoesKeepWord (slot caller word : ℕ) (op : Op) (h h' : Holding) : Type 0 where
+    pub within : slot < 8
+    pub caller_in : caller < 16
+    pub keeping : op ≡ Store (place_of g (Slot slot (LoadedSection caller))) word
+    pub moves : h.moving ≡ true
+    pub holds : HoldsSame h h'
+
+  -- the store clears an entry that led to this page, which the call has from then on
+  pub record DoesWithdraw (entry page : ℕ) (op : Op) (old : ℕ) (h h' : Holding) : Type 0 where
+    pub within : entry < 64 * g.pages
+    pub clearing : op ≡ Store (place_of g (PageWord entry)) 0
+    pub found : old ≡ entry_of page
+    pub works : h.worker ≡ true
+    pub none : h.slot ≡ None
+    pub pages : (p : ℕ) → In p h'.pages ↔ (In p h.pages ⊎ (p ≡ page))
+    pub holds : bare h' ≡ record (bare h) { pages = h'.pages }
+
+  -- the operation sets these bits of a word of the map of pages, and the call has the slot of a table from then on
+  pub record DoesTakeBack (slot index bits : ℕ) (op : Op) (old : ℕ) (h h' : Holding) : Type 0 where
+    pub within : slot < 8
+    pub sets : SetsBits index bits op old
+    pub works : h.worker ≡ true
+    pub none : h.slot ≡ None
+    pub empty : h.pages ≡ []
+    pub holds : bare h' ≡ record (bare h) { slot = Some slot; pages = h'.pages }
+
   pub record DoesRetire (slot : ℕ) (op : Op) (h h' : Holding) : Type 0 where
     pub within : slot < 8
     pub retiring : op ≡ Store (place_of g (Slot slot StateWord)) 2
@@ -380,9 +413,13 @@ module _ (env : Env) (mix : ℕ → ℕ → ℕ → ℕ) where
   ghost_after c (Arrives j i entry) G = arrived G i entry
   ghost_after c (CutsOff j entry before) G = cut_off G j before
   ghost_after c Publishes G = published G
-  ghost_after c (Retires s) G = retired G s
-  ghost_after c (Opens d) G = G
-  ghost_after c (Closes d) G = G
+  ghost_after c (Retires s) G = retiring G s
+  ghost_after c (KeepsWord s d word) G = G
+  ghost_after c (Settles s d word) G = retired G s
+  ghost_after c (Withdraws j p) G = withdrawn G c j p
+  ghost_after c (TakesBack s index bits) G = taken_back G c s index bits
+  ghost_after c (Opens d) G = with_from G d (Some G.current)
+  ghost_after c (Closes d) G = with_from G d None
   ghost_after c (ReturnsNode n) G = with_owner G n Free
 
   -- the words as a memory
@@ -399,12 +436,13 @@ module _ (env : Env) (mix : ℕ → ℕ → ℕ → ℕ) where
   -- What a move needs: to link a node, all that makes it ready, and to be armed, the lock of a bucket in the last table. To take a slot or
   -- pages, that they are free, to give them back, that the caller has them, to attach a table, that the caller has made it, and to enter a
   -- page, that the caller has it. To take the work, that nobody has it, and to do it, that the caller has it, with what the moves of entries and tables need.
+  -- To lock a bucket, that the caller's section comes to its table.
   -- To open or close a section, that it is the caller's own. To give a node back, that a call of the caller took it out.
   abbrev pub ReadyFor : ℕ → Memory → Ghost → Move → Type 0
   ReadyFor c M G Quiet = Unit {0}
   ReadyFor c M G (TakesNode n) = G.node n ≡ Free
   ReadyFor c M G (GivesNode n) = G.node n ≡ NodeHeld c
-  ReadyFor c M G (TakesLock j) = Unit {0}
+  ReadyFor c M G (TakesLock j) = IsSince (G.from c) (table_at G j)
   ReadyFor c M G (DropsLock j) = Unit {0}
   ReadyFor c M G Raises = Unit {0}
   ReadyFor c M G (Links n port j) = IsReady env mix c n port j M G
@@ -413,7 +451,7 @@ module _ (env : Env) (mix : ℕ → ℕ → ℕ → ℕ) where
   ReadyFor c M G (LinksBehind n) = Unit {0}
   ReadyFor c M G (Arms j) = IsArming env mix c j G
   ReadyFor c M G (TakesSlot s) = G.slot s ≡ SlotFree
-  ReadyFor c M G (GivesSlot s) = G.slot s ≡ SlotHeld c
+  ReadyFor c M G (GivesSlot s) = slot_holder (G.slot s) ≡ Some c
   ReadyFor c M G (TakesPages index bits) = ArePagesOf env mix G index bits PageFree
   ReadyFor c M G (GivesPages index bits) = ArePagesOf env mix G index bits (PageHeld c)
   ReadyFor c M G (Attaches slot shape seed serial) = IsAttaching env mix c slot shape seed serial M G
@@ -421,15 +459,45 @@ module _ (env : Env) (mix : ℕ → ℕ → ℕ → ℕ) where
   ReadyFor c M G TakesWork = G.worker ≡ None
   ReadyFor c M G GivesWork = G.worker ≡ Some c
   ReadyFor c M G BeginsMoving = G.worker ≡ Some c
-  ReadyFor c M G (TakesSecond i) = G.worker ≡ Some c
+  ReadyFor c M G (TakesSecond i) = (G.worker ≡ Some c) × IsSince (G.from c) (table_at G i)
   ReadyFor c M G (Leaves j i entry nodes) = CanLeave env mix c j i entry nodes M G
   ReadyFor c M G (Arrives j i entry) = CanArrive env mix c j i entry M G
   ReadyFor c M G (CutsOff j entry before) = CanCut env mix c j entry before G
   ReadyFor c M G Publishes = CanPublish env mix c G
   ReadyFor c M G (Retires s) = CanRetire env mix c s G
-  ReadyFor c M G (Opens d) = d ≡ c
+  ReadyFor c M G (KeepsWord s d word) = CanKeep env mix c s G
+  ReadyFor c M G (Settles s d word) = CanSettle env mix c s d word M G
+  ReadyFor c M G (Withdraws j p) = CanWithdraw env mix c j p G
+  ReadyFor c M G (TakesBack s index bits) = CanTakeBack env mix c s index bits G
+  ReadyFor c M G (Opens d) = (d ≡ c) × (G.from c ≡ None)
   ReadyFor c M G (Closes d) = d ≡ c
   ReadyFor c M G (ReturnsNode n) = G.node n ≡ Taken c
+
+  -- a move opens no other caller's section, and closes none
+  pub other_sections : (c k : ℕ) (move : Move) (M : Memory) (G : Ghost) → ReadyFor c M G move → k ≢ c
+      → (ghost_after c move G).from k ≡ G.from k
+  other_sections c k (Opens d) M G ready other = put-other G.from d (Some G.current) k (λ e. other (e ∙ ready.0))
+  other_sections c k (Closes d) M G mine other = put-other G.from d None k (λ e. other (e ∙ mine))
+  other_sections c k _ M G ready other = refl
+
+  -- a caller's section stays open or closed, with its first table, or is opened at the current one, or closed
+  abbrev pub SectionTurns : ℕ → Ghost → Ghost → Type 0
+  SectionTurns k G G' =
+      (G'.from k ≡ G.from k) ⊎ ((G.from k ≡ None) × (G'.from k ≡ Some G'.current)) ⊎ (G'.from k ≡ None)
+
+  pub section_turns : (c k : ℕ) (move : Move) (M : Memory) (G : Ghost) → ReadyFor c M G move
+      → SectionTurns k G (ghost_after c move G)
+  section_turns c k (Opens d) M G ready =
+      let first = Some G.current in
+      elim (cases_eq k d) [
+        | inl e ↦ inr (inl (ap G.from (e ∙ ready.0) ∙ ready.1, ap (put G.from d first) e ∙ put-same G.from d first))
+        | inr ne ↦ inl (put-other G.from d first k ne)
+      ]
+  section_turns c k (Closes d) M G ready = elim (cases_eq k d) [
+    | inl e ↦ inr (inr (ap (put G.from d None) e ∙ put-same G.from d None))
+    | inr ne ↦ inl (put-other G.from d None k ne)
+  ]
+  section_turns c k _ M G ready = inl refl
 
   -- which operation the move is, and how what the call holds changes by it
   abbrev pub Does : Move → Op → ℕ → Holding → Holding → Type 0
@@ -460,6 +528,10 @@ module _ (env : Env) (mix : ℕ → ℕ → ℕ → ℕ) where
   Does (CutsOff j entry before) op old h h' = DoesCutOff env.geometry (place_at env mix j) before op h (bare h')
   Does Publishes op old h h' = DoesPublish env.geometry op h (bare h')
   Does (Retires s) op old h h' = DoesRetire env.geometry s op h (bare h')
+  Does (KeepsWord s d word) op old h h' = DoesKeepWord env.geometry s d word op h (bare h')
+  Does (Settles s d word) op old h h' = DoesKeepWord env.geometry s d word op h (bare h')
+  Does (Withdraws j p) op old h h' = DoesWithdraw env.geometry j p op old h (bare h')
+  Does (TakesBack s index bits) op old h h' = DoesTakeBack env.geometry s index bits op old h (bare h')
   Does (Opens d) op old h h' = DoesOpen env.geometry d op h (bare h')
   Does (Closes d) op old h h' = DoesClose env.geometry d op h (bare h')
   Does (ReturnsNode n) op old h h' = DoesReturnNode env.geometry n op h (bare h')
@@ -563,6 +635,10 @@ module _ (env : Env) (mix : ℕ → ℕ → ℕ → ℕ) where
   LinksNone (CutsOff j entry before) = Unit {0}
   LinksNone Publishes = Unit {0}
   LinksNone (Retires s) = Unit {0}
+  LinksNone (KeepsWord s d word) = Unit {0}
+  LinksNone (Settles s d word) = Unit {0}
+  LinksNone (Withdraws j p) = Unit {0}
+  LinksNone (TakesBack s index bits) = Unit {0}
   LinksNone (Opens d) = Unit {0}
   LinksNone (Closes d) = Unit {0}
   LinksNone (ReturnsNode n) = ⊥

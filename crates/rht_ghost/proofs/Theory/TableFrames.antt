@@ -4,29 +4,32 @@ use Rattle.std.proofs.Common.{◌≡◌, ◌≢◌, ℕ, ◌*◌, ◌/◌, ◌<�
 use Rattle.std.proofs.lemmas.Bool.{false_from_ne_true, both_ways, cases_lt}
 use Rattle.rht_words.specs.declared.env.Env.{Env}
 use Rattle.rht_words.specs.Held as held
-use Rattle.rht_words.specs.Places.{Address, CurrentTable, PortCount, Slot, SlotWord, IsSlotWord, ShapeWord, SeedWord, FutureWord, SerialWord, NodeMap, PageMap, Node, NodeWord, ChainLink, KeyWord, OwnerWord, ListLink, PageWord}
+use Rattle.rht_words.specs.Places.{Address, PortCount, Section, Slot, LoadedSection, ShapeWord, SeedWord, FutureWord, SerialWord, NodeMap, Node, NodeWord, ChainLink, KeyWord, OwnerWord, ListLink, PageWord}
 use Rattle.rht_words.specs.Members.{In}
 use Rattle.rht_words.proofs.Memory.{Memory, IsWrite}
 use Rattle.rht_words.proofs.ChainLemmas.{IsSegment-members}
-use Rattle.rht_ghost.proofs.Theory.Ghosts.{has_entries, Table, blank_bucket, PageOwner, PageFree, PageHeld, PageOf, SlotOwner, SlotHeld, Live, Ghost, table_of_page, table_of_slot, table_at, has_table, index_at, is_entry, is_entry_of, entry_word}
-use Rattle.rht_ghost.proofs.Theory.Wholes.{key_of, list_of, home, future_in, IsNoBucket, PlacedRight, EntriesRight, TableRight, TablesRight, SlotsRight, PagesRight, MovingRight, OutRight, IsHomeOf, IsFirstAt, IsLeavingAt, Owned, Whole, seated_at, IsThere, there-attached}
+use Rattle.rht_ghost.proofs.Theory.Ghosts.{has_entries, Table, blank_bucket, PageOwner, PageFree, PageHeld, PageOf, SlotOwner, Ghost, unretired, unretired-has, slot_holder, IsOver, IsSince, table_of_page, table_of_slot, table_at, has_table, is_entry, is_entry_of, entry_word}
+use Rattle.rht_ghost.proofs.Theory.Wholes.{key_of, list_of, home, future_in, IsNoBucket, PlacedRight, EntriesRight, TableRight, TablesRight, SlotsRight, PagesRight, MovingRight, OutRight, IsHomeOf, IsFirstAt, IsLeavingAt, Owned, Whole, seated_at, IsThere}
 use Rattle.rht_nest.specs.Tables.{table_seed}
 use Rattle.rht_ghost.proofs.Theory.Entries.{PlacedRight-pages}
-use Rattle.rht_ghost.proofs.Theory.Passed.{held-bucket, member-bucket, home-stays, TableStays, same-TableStays, TablesGrow, PassesStay, Passed-stays}
+use Rattle.rht_ghost.proofs.Theory.Passed.{held-bucket, member-bucket, home-stays, TableStays, same-TableStays, TablesGrow, grows_from, PassesStay}
 use Rattle.rht_ghost.proofs.Theory.Knowns.{Known, KnownMaking}
 use Rattle.rht_ghost.proofs.Theory.Knowledge.{MakingMeans, Knowing}
-use Rattle.rht_ghost.proofs.Theory.Reliance.{TablesStay, HoldingsStay, WorkStays, members_used, Rely}
+use Rattle.rht_ghost.proofs.Theory.SectionFrames.{IsNoSectionWord, SectionsRight-write, sections_stay, retired-before}
+use Rattle.rht_ghost.proofs.Theory.Reliance.{TablesStay, all_stay, HoldingsStay, IsUntouched, WorkStays, members_used, Rely}
 use Rattle.rht_ghost.proofs.Theory.KnowledgeStays.{NodeMeans-stay, TableMeans-stay, BucketMeans-own}
 use Rattle.rht_ghost.proofs.Theory.KnowledgeKept.{WorkMeans-stay}
 use Rattle.rht_ghost.proofs.Theory.Frames.{passes_same, chains_stay}
-use Rattle.rht_ghost.proofs.Theory.WholeFrames.{IsApart, no_bucket, BucketRight-frame, arena_stays}
+use Rattle.rht_ghost.proofs.Theory.WholeFrames.{BucketRight-frame, arena_stays}
 
--- the address is no word of a node, nor one of a page that isn't a table's entry, nor of the map of nodes, nor the count
+-- the address is no word of a node, nor one of a page that isn't a table's entry, nor of the map of nodes, nor the count, nor a
+-- section word, whether kept or not
 pub record IsNoBucketWord (G : Ghost) (a : Address) : Type 0 where
   pub nodes : (n : ℕ) (w : NodeWord) → Node n w ≢ a
   pub buckets : (j : ℕ) → is_entry G j ≡ false → PageWord j ≢ a
   pub map : (i : ℕ) → NodeMap i ≢ a
   pub count : PortCount ≢ a
+  pub sections : IsNoSectionWord a
 
 module _ (env : Env) (mix : ℕ → ℕ → ℕ → ℕ) where
   -- the ghost with other tables, slots and pages
@@ -34,7 +37,7 @@ module _ (env : Env) (mix : ℕ → ℕ → ℕ → ℕ) where
   retabled G table attached slot page = record G { table = table; attached = attached; slot = slot; page = page }
 
   -- the tables that there are keep their slots and pages, and what is said of them; a bucket that gets a word is blank; and tables that
-  -- come are there
+  -- come are there. Nobody touches a table before the current one to which no open section comes
   pub record TablesKept (G : Ghost) (table : ℕ → Table) (attached : ℕ) (slot : ℕ → SlotOwner)
       (page : ℕ → PageOwner) : Type 0 where
     pub tables : (τ : ℕ) → τ < G.attached → TableStays G.page τ (G.table τ) (table τ)
@@ -45,16 +48,18 @@ module _ (env : Env) (mix : ℕ → ℕ → ℕ → ℕ) where
     pub back : (s : ℕ) → has_table (slot s) ≡ true → table_of_slot (slot s) < G.attached → slot s ≡ G.slot s
     pub pages : (p τ : ℕ) → G.page p ≡ PageOf τ → page p ≡ PageOf τ
     pub fresh : (τ : ℕ) → G.attached ≤ τ → τ < attached → IsThere (retabled G table attached slot page) τ
+    pub over : (τ : ℕ) → τ < G.current → IsOver G τ → IsUntouched env mix τ G (retabled G table attached slot page)
 
-  -- so it is where they are what they were
+  -- so it is where they are what they were, and none of them gets a page
   pub same_kept : (G : Ghost) (table : ℕ → Table) (attached : ℕ) (slot : ℕ → SlotOwner) (page : ℕ → PageOwner)
-      → ((τ : ℕ) → τ < G.attached → table τ ≡ G.table τ) → G.attached ≤ attached
+      → G.current < G.attached → ((τ : ℕ) → τ < G.attached → table τ ≡ G.table τ) → G.attached ≤ attached
       → ((s : ℕ) → has_table (G.slot s) ≡ true → slot s ≡ G.slot s)
       → ((s : ℕ) → has_table (slot s) ≡ true → table_of_slot (slot s) < G.attached → slot s ≡ G.slot s)
       → ((p τ : ℕ) → G.page p ≡ PageOf τ → page p ≡ PageOf τ)
+      → ((p τ : ℕ) → τ < G.attached → page p ≡ PageOf τ → G.page p ≡ PageOf τ)
       → ((τ : ℕ) → G.attached ≤ τ → τ < attached → IsThere (retabled G table attached slot page) τ)
       → TablesKept G table attached slot page
-  same_kept G table attached slot page same more slots back pages fresh = record {
+  same_kept G table attached slot page within same more slots back pages pages_back fresh = record {
     tables = λ τ l. same-TableStays G.page τ (G.table τ) (table τ) (same τ l);
     placed = λ τ b j l is. inl (ap (λ (t : Table). t.place b) (sym (same τ l)) ∙ is);
     more = more;
@@ -62,20 +67,23 @@ module _ (env : Env) (mix : ℕ → ℕ → ℕ → ℕ) where
     back = back;
     pages = pages;
     fresh = fresh;
+    over = λ τ l over.
+        let was : τ < G.attached = omega (arith, l, within) in
+        record { table = same τ was; pages = λ p. (pages_back p τ was, pages p τ) };
   }
 
   -- none comes
   pub none_fresh : (G G' : Ghost) (τ : ℕ) → G.attached ≤ τ → τ < G.attached → IsThere G' τ
   none_fresh G G' τ from l = absurd (omega (arith, from, l))
 
-  -- Then a slot that has one of these tables in use had it before. And a table that was there is there still; one of these that is
-  -- there was so before.
+  -- Then a slot that has one of these tables not retired had it so before. And a table that was there is there still; one of
+  -- these that is there was so before.
   module _ (G : Ghost) (table : ℕ → Table) (attached : ℕ) (slot : ℕ → SlotOwner) (page : ℕ → PageOwner)
       (kept : TablesKept G table attached slot page) where
-    pub live_kept : (s τ : ℕ) → slot s ≡ Live τ → τ < G.attached → G.slot s ≡ Live τ
+    pub live_kept : (s τ : ℕ) → unretired (slot s) ≡ Some τ → τ < G.attached → unretired (G.slot s) ≡ Some τ
     live_kept s τ live l =
-        let index : table_of_slot (slot s) ≡ τ = ap table_of_slot live in
-        sym (kept.back s (ap has_table live) (omega (arith, index, l))) ∙ live
+        let has = unretired-has (slot s) τ live in
+        sym (ap unretired (kept.back s has.0 (omega (arith, has.1, l)))) ∙ live
 
     pub there_kept : (τ : ℕ) → τ < G.attached → IsThere G τ → IsThere (retabled G table attached slot page) τ
     there_kept τ l there =
@@ -131,10 +139,7 @@ module _ (env : Env) (mix : ℕ → ℕ → ℕ → ℕ) where
     })
 
     pub kept_stay : TablesStay env mix G G'
-    kept_stay = record {
-      grow = kept_grow;
-      passed = Passed-stays env mix M G G' whole kept_grow kept_passes;
-    }
+    kept_stay = all_stay env mix M G G' whole kept_grow kept_passes
 
     pub node_word : (n : ℕ) (w : NodeWord) → n < env.geometry.nodes → M' (Node n w) ≡ M (Node n w)
     node_word n w l = write.others (Node n w) l (apart.nodes n w)
@@ -325,6 +330,13 @@ module _ (env : Env) (mix : ℕ → ℕ → ℕ → ℕ) where
     Whole-retabled tables slots pages entries = record {
       tables = tables;
       slots = slots;
+      sections = SectionsRight-write env mix M M' G G' a v write apart.sections whole.sections refl
+          (λ s τ is.
+          let before = retired-before env mix M' G' tables s τ is in
+          let index : table_of_slot (slot s) ≡ τ = ap table_of_slot is in
+          sym (kept.back s (ap has_table is) (omega (arith, index, before, whole.tables.current_in))) ∙ is)
+          (λ j c holds. subst (IsSince (G.from c)) (sym (table_kept j (held-bucket env mix M G whole j c holds)))
+          (whole.sections.locked j c holds));
       pages = pages;
       buckets = λ j l none.
           let was = bucket_before j none in
@@ -343,7 +355,10 @@ module _ (env : Env) (mix : ℕ → ℕ → ℕ → ℕ) where
     work_kept c works = record {
       worker = works;
       current = refl;
-      left = λ s τ is l. kept.slots s (ap has_table is) ∙ is;
+      left = λ s has l. kept.slots s has;
+      kept = λ s d l m. write.others (Slot s (LoadedSection d)) (l, m) (apart.sections.kept s d);
+      sections = sections_stay env mix M M' G G' whole refl (λ d m. write.others (Section d) m (apart.sections.own d));
+      over = kept.over;
       emptied = λ more j at is. is;
       entries = λ j entry out. refl;
       chains = λ n j leaving.
@@ -374,7 +389,7 @@ module _ (env : Env) (mix : ℕ → ℕ → ℕ → ℕ) where
     -- what the caller itself knows after a step of its own, beside its slot and pages and what it knows of these
     pub Knowing-retabled : {A : Type 0} → (c : ℕ) (h : held.Held A) (known : Known) (has : Option ℕ)
         (pages : List ℕ) (making : KnownMaking) → Knowing env mix c h known M G
-        → ((s : ℕ) → slot s ≡ SlotHeld c → has ≡ Some s) → ((p : ℕ) → page p ≡ PageHeld c → In p pages)
+        → ((s : ℕ) → slot_holder (slot s) ≡ Some c → has ≡ Some s) → ((p : ℕ) → page p ≡ PageHeld c → In p pages)
         → MakingMeans env mix c M' G' making
         → Knowing env mix c (record h { slot = has; pages = pages }) (record known { making = making }) M' G'
     Knowing-retabled c h known has pages making knows slots_in pages_in means = record {
@@ -385,11 +400,12 @@ module _ (env : Env) (mix : ℕ → ℕ → ℕ → ℕ) where
         slots = slots_in;
         pages_in = pages_in;
         works = knows.only.works;
+        reads = knows.only.reads;
       };
       means = record {
         node = NodeMeans-stay env mix c M M' G G' (λ n has. has.mine) (λ n has w. node_word n w has.among)
             known.node knows.means.node;
-        table = TableMeans-stay env mix c M M' G G' kept_stay known.table knows.means.table;
+        table = TableMeans-stay env mix c M M' G G' refl kept_stay known.table knows.means.table;
         bucket = BucketMeans-own env mix c M M' G G' (members_used env mix M G whole) (λ j h. refl) (λ j n h i. refl)
             (chains_stay env mix c M M' G a v whole write (λ n used. apart.nodes n ChainLink))
             (λ n l used. node_word n KeyWord l) (λ n l used. node_word n OwnerWord l) (λ n. refl) kept_stay
@@ -398,7 +414,9 @@ module _ (env : Env) (mix : ℕ → ℕ → ℕ → ℕ) where
             knows.means.bucket;
         making = means;
         work = WorkMeans-stay env mix c M M' G G' whole (record {
-          grow = kept_grow;
+          low = 0;
+          current = omega arith;
+          grow = grows_from env mix G G' kept_grow;
           locks = λ j h. refl;
           keys = λ n l used. node_word n KeyWord l;
           work = work_kept c;
@@ -434,54 +452,3 @@ module _ (env : Env) (mix : ℕ → ℕ → ℕ → ℕ) where
     placed_kept τ there same back =
         subst (λ t. PlacedRight env mix t page τ) (sym same)
         (PlacedRight-pages env mix (G.table τ) G.page page τ (λ p. kept.pages p τ) back (whole.tables.each τ there).placed)
-
-  -- tables that stay are right, where the slots that have tables are those that had them, with the words that they had, and no table
-  -- gets a page
-  pub TablesRight-kept : (M M' : Memory) (G : Ghost) (slot : ℕ → SlotOwner) (page : ℕ → PageOwner)
-      → Whole env mix M G → TablesKept G G.table G.attached slot page → (a : Address) (v : ℕ)
-      → IsWrite env.geometry M M' a v → IsNoBucketWord G a → IsApart env mix G a
-      → ((s : ℕ) → has_table (slot s) ≡ true → slot s ≡ G.slot s)
-      → ((p τ : ℕ) → page p ≡ PageOf τ → G.page p ≡ PageOf τ)
-      → TablesRight env mix M' (retabled G G.table G.attached slot page)
-  TablesRight-kept M M' G slot page whole kept a v write words apart back pages_back =
-      let right = whole.tables in
-      record {
-        current_in = right.current_in;
-        current_is = write.others CurrentTable tt apart.current ∙ right.current_is;
-        force = λ τ from l.
-            let live = right.force τ from l in kept.slots (G.table τ).slot (ap has_table live) ∙ live;
-        there = λ τ l. there_kept G G.table G.attached slot page kept τ l (right.there τ l);
-        each = λ τ now.
-            let s = (G.table τ).slot in
-            let owner = back s now.has_slot in
-            let there : IsThere G τ = record {
-              has_slot = sym (ap has_table owner) ∙ now.has_slot;
-              index = sym (ap table_of_slot owner) ∙ now.index;
-            } in
-            let l = there-attached env mix right τ there in
-            let here = right.each τ there in
-            let same : (w : SlotWord) → IsSlotWord w → M' (Slot s w) ≡ M (Slot s w) =
-            λ w is. write.others (Slot s w) (here.slot_in, is) (apart.slots s w there.has_slot) in
-            TableRight-kept M M' G G.table G.attached slot page whole kept a v write words τ l there (same ShapeWord tt)
-            (same SeedWord tt) (same SerialWord tt) (same FutureWord tt ∙ here.future_is)
-            (placed_kept M M' G G.table G.attached slot page whole kept a v write words τ there refl (λ p. pages_back p τ));
-        slots = λ s has.
-            let owner = back s has in
-            let is = right.slots s (sym (ap has_table owner) ∙ has) in
-            let index : table_of_slot (slot s) ≡ index_at G s = ap table_of_slot owner in
-            record {
-              attached = omega (arith, is.attached, index);
-              slot = ap (λ τ. (G.table τ).slot) index ∙ is.slot;
-            };
-      }
-
-  -- and pages are, where only slots change
-  pub PagesRight-kept : (M M' : Memory) (G : Ghost) (slot : ℕ → SlotOwner) → TablesKept G G.table G.attached slot G.page
-      → (a : Address) (v : ℕ) → IsWrite env.geometry M M' a v → ((i : ℕ) → PageMap i ≢ a) → PagesRight env mix M G
-      → PagesRight env mix M' (retabled G G.table G.attached slot G.page)
-  PagesRight-kept M M' G slot kept a v write apart right = record {
-    bits = λ p l. rw (write.others (PageMap (p / 64)) (omega arith) (apart (p / 64))) (right.bits p l);
-    page_of = right.page_of;
-    there = λ p τ of. there_kept G G.table G.attached slot G.page kept τ (right.page_of p τ of) (right.there p τ of);
-    blank = λ j is. right.blank j (no_bucket env mix G (retabled G G.table G.attached slot G.page) refl (G.page (j / 64)) j is);
-  }

@@ -224,12 +224,12 @@ module _ (env : Env) (mix : ℕ → ℕ → ℕ → ℕ) where
   -- ---- where the way ends
 
   -- where the bucket's word has a place, the way has come there
-  pub at_home : (M : Memory) (G : Ghost) → Whole env mix M G → (port slot shape place : ℕ)
-      → (passing : IsPassing env mix G port slot) → (G.table passing.at.table).shape ≡ shape
+  pub at_home : {c : ℕ} (M : Memory) (G : Ghost) → Whole env mix M G → (port slot shape place : ℕ)
+      → (passing : IsPassing env mix c G port slot) → (G.table passing.at.table).shape ≡ shape
       → option_map (place_at env mix) (home env mix G port passing.at.table) ≡ Some place
-      → IsAtHome env mix G port slot (Some shape) place
+      → IsAtHome env mix c G port slot (Some shape) place
   at_home M G whole port slot shape place passing shape_is is =
-      let at = home_place M G whole port passing.at.table (at-there env mix whole.tables slot passing.at) place is in
+      let at = home_place M G whole port passing.at.table (at-there passing.at) place is in
       record { passing = passing; shape_is = shape_is; bucket = at.bucket; here = at.here }
 
   -- and where the words lead to none it is missing

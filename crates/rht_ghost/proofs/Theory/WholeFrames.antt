@@ -8,11 +8,12 @@ use Rattle.rht_words.proofs.Memory.{Memory, IsWrite}
 use Rattle.rht_words.specs.Members.{In}
 use Rattle.rht_words.proofs.ChainLemmas.{IsSegment-members}
 use Rattle.rht_words.specs.Links.{head_of}
-use Rattle.rht_ghost.proofs.Theory.Ghosts.{Table, Bucket, Owner, First, Leaving, Behind, Ghost, lock_bit, state_word, is_used, is_listed, IsListedNode, PageOwner, PageFree, PageHeld, PageOf, SlotOwner, seat_of, seat-listed, has_table, table_at, is_entry, entry_word}
+use Rattle.rht_ghost.proofs.Theory.Ghosts.{Table, Bucket, Owner, First, Leaving, Behind, Ghost, lock_bit, state_word, is_used, is_listed, IsListedNode, PageOwner, PageFree, PageHeld, PageOf, SlotOwner, seat_of, seat-listed, has_table, unretired, IsSince, table_at, is_entry, entry_word}
 use Rattle.rht_ghost.proofs.Theory.Ways.{IsSpareIn}
-use Rattle.rht_ghost.proofs.Theory.Wholes.{retired_stay, chain_of, list_of, key_of, place_at, home, stop, IsNoBucket, EntriesRight, TableRight, TablesRight, SlotsRight, PagesRight, LockedRight, BucketRight, ChainedRight, ArmedRight, OutRight, MovingRight, IsHomeOf, IsLeavingAt, Owned, ArenaRight, Whole, out-seated, firsts, raisers, IsThere}
+use Rattle.rht_ghost.proofs.Theory.Wholes.{retired_stay, chain_of, list_of, key_of, place_at, home, stop, IsNoBucket, EntriesRight, TableRight, TablesRight, SlotsRight, SectionsRight, PagesRight, LockedRight, BucketRight, ChainedRight, ArmedRight, OutRight, MovingRight, IsHomeOf, IsLeavingAt, Owned, ArenaRight, Whole, out-seated, firsts, raisers, IsThere}
 use Rattle.rht_ghost.proofs.Theory.Passed.{held-no_entry, PassesStay}
-use Rattle.rht_ghost.proofs.Theory.Frames.{IsNoTableWord, SameTables, there_same, UsedStay, first_stays, passes_same, same_tables, seat_stays}
+use Rattle.rht_ghost.proofs.Theory.SectionFrames.{SectionsRight-write}
+use Rattle.rht_ghost.proofs.Theory.Frames.{IsNoTableWord, no_section, SameTables, there_same, UsedStay, first_stays, passes_same, same_tables, seat_stays}
 
 module _ (env : Env) (mix : ℕ → ℕ → ℕ → ℕ) where
   -- ---- the parts of the whole
@@ -55,7 +56,6 @@ module _ (env : Env) (mix : ℕ → ℕ → ℕ → ℕ) where
         current_in = right.current_in;
         current_is = right.current_is;
         force = right.force;
-        there = λ τ l. let t = right.there τ l in record { has_slot = t.has_slot; index = t.index };
         each = λ τ t. let r = right.each τ (record { has_slot = t.has_slot; index = t.index }) in record {
           slot_in = r.slot_in;
           shape_is = r.shape_is;
@@ -84,7 +84,6 @@ module _ (env : Env) (mix : ℕ → ℕ → ℕ → ℕ) where
     current_in = right.current_in;
     current_is = write.others CurrentTable tt apart.current ∙ right.current_is;
     force = right.force;
-    there = right.there;
     each = λ τ there. TableRight-write M M' G a v τ write apart there (right.each τ there);
     slots = right.slots;
   })
@@ -97,8 +96,9 @@ module _ (env : Env) (mix : ℕ → ℕ → ℕ → ℕ) where
     states = λ s l. write.others (Slot s StateWord) (l, tt) (states s) ∙ right.states s l
         ∙ sym (ap (λ slot. state_word (slot s)) same.slot);
     worker_is = write.others WorkLock tt lock ∙ right.worker_is ∙ sym (ap lock_bit same.worker);
-    retired = λ idle. retired_stay G G' None same.current (λ s τ is l. ap (λ slot. slot s) (sym same.slot) ∙ is)
+    retired = λ idle. retired_stay G G' None same.current (λ s τ is l. ap (λ slot. unretired (slot s)) (sym same.slot) ∙ is)
         (right.retired (sym same.worker ∙ idle));
+    back = λ s c is. same.worker ∙ right.back s c (ap (λ slot. slot s) (sym same.slot) ∙ is);
   }
 
   -- a bucket's table is what it was
@@ -419,18 +419,19 @@ module _ (env : Env) (mix : ℕ → ℕ → ℕ → ℕ) where
 
   -- ---- the whole
 
-  -- What is left to show of a store to no word of a table, where chains and their nodes' words stay: that no blank bucket changes, and
-  -- that locks, the map of nodes and the count are right.
-  pub Whole-frame : (M M' : Memory) (G G' : Ghost) (a : Address) (v : ℕ) → Whole env mix M G
-      → IsWrite env.geometry M M' a v → IsNoTableWord env mix a → IsNoEntry G a
-      → SameChains G G' → UsedStay env mix M G M'
-      → ((j : ℕ) → IsNoBucket env mix G (G.page (j / 64)) j → G'.bucket j ≡ G.bucket j)
+  -- What is left to show of a store to no word of a table, where chains and their nodes' words stay: that no blank bucket
+  -- changes, and that sections, locks, the map of nodes and the count are right.
+  pub Whole-around : (M M' : Memory) (G G' : Ghost) (a : Address) (v : ℕ) → Whole env mix M G
+      → IsWrite env.geometry M M' a v → IsApart G a → WorkLock ≢ a → ((s : ℕ) → Slot s StateWord ≢ a)
+      → ((i : ℕ) → PageMap i ≢ a) → IsNoEntry G a → SameChains G G' → UsedStay env mix M G M'
+      → ((j : ℕ) → IsNoBucket env mix G (G.page (j / 64)) j → G'.bucket j ≡ G.bucket j) → SectionsRight env mix M' G'
       → ((j : ℕ) → j < 64 * env.geometry.pages → is_entry G j ≡ false → LockedRight env mix M' j (G'.bucket j))
       → ArenaRight env mix M' G' → M' PortCount ≡ firsts env mix G' + raisers env mix G' → Whole env mix M' G'
-  Whole-frame M M' G G' a v whole write apart no_entry same words blanks locked arena counted = record {
-    tables = TablesRight-write M M' G G' a v write (is_apart G a apart) same.tables whole.tables;
-    slots = SlotsRight-write M M' G G' a v write apart.work (λ s. apart.slots s StateWord) same.tables whole.slots;
-    pages = PagesRight-write M M' G G' a v write apart.pages same.tables blanks whole.pages;
+  Whole-around M M' G G' a v whole write apart work states map no_entry same words blanks sections locked arena counted = record {
+    tables = TablesRight-write M M' G G' a v write apart same.tables whole.tables;
+    slots = SlotsRight-write M M' G G' a v write work states same.tables whole.slots;
+    sections = sections;
+    pages = PagesRight-write M M' G G' a v write map same.tables blanks whole.pages;
     buckets = λ j l is.
         let was = sym (is_entry-same G G' j same.tables) ∙ is in
         record {
@@ -453,6 +454,23 @@ module _ (env : Env) (mix : ℕ → ℕ → ℕ → ℕ) where
     arena = arena;
     counted = counted;
   }
+
+  -- where it is to no section word either, and no section is opened or closed, what is left of sections is that those of the
+  -- callers that have locked buckets come to the tables of these
+  pub Whole-frame : (M M' : Memory) (G G' : Ghost) (a : Address) (v : ℕ) → Whole env mix M G
+      → IsWrite env.geometry M M' a v → IsNoTableWord env mix a → IsNoEntry G a
+      → SameChains G G' → UsedStay env mix M G M'
+      → ((j : ℕ) → IsNoBucket env mix G (G.page (j / 64)) j → G'.bucket j ≡ G.bucket j)
+      → ((j : ℕ) → j < 64 * env.geometry.pages → is_entry G j ≡ false → LockedRight env mix M' j (G'.bucket j))
+      → ArenaRight env mix M' G' → M' PortCount ≡ firsts env mix G' + raisers env mix G' → G'.from ≡ G.from
+      → ((j c : ℕ) → (G'.bucket j).holder ≡ Some c → IsSince (G.from c) (table_at G j)) → Whole env mix M' G'
+  Whole-frame M M' G G' a v whole write apart no_entry same words blanks locked arena counted from since =
+      Whole-around M M' G G' a v whole write (is_apart G a apart) apart.work (λ s. apart.slots s StateWord) apart.pages no_entry
+      same words blanks
+      (SectionsRight-write env mix M M' G G' a v write (no_section env mix a apart) whole.sections from
+      (λ s τ is. ap (λ slot. slot s) (sym same.tables.slot) ∙ is)
+      (λ j c holds. subst (IsSince (G.from c)) (sym (table_at-same G G' j same.tables)) (since j c holds)))
+      locked arena counted
 
   module _ (M M' : Memory) (G : Ghost) (a : Address) (v : ℕ) (whole : Whole env mix M G)
       (write : IsWrite env.geometry M M' a v) where

@@ -6,14 +6,14 @@ use Rattle.rht_words.specs.declared.env.Env.{Env}
 use Rattle.rht_words.specs.declared.config.Kind.TheVariants.{Single}
 use Rattle.rht_words.specs.Links.{link_of, head_of, marker_of, future_of}
 use Rattle.rht_words.specs.Shapes.{unpacked, size_of}
-use Rattle.rht_words.specs.Places.{CurrentTable, WorkLock, PortCount, Slot, ShapeWord, SeedWord, FutureWord, SerialWord, StateWord, NodeMap, PageMap, Node, ChainLink, KeyWord, ListLink, PageWord, IsBucketPlace, place_of, pages_at}
+use Rattle.rht_words.specs.Places.{CurrentTable, WorkLock, PortCount, Section, Slot, ShapeWord, SeedWord, FutureWord, SerialWord, StateWord, LoadedSection, NodeMap, PageMap, Node, ChainLink, KeyWord, ListLink, PageWord, IsBucketPlace, place_of, pages_at}
 use Rattle.rht_words.specs.Chains.{IsSegment}
 use Rattle.rht_words.proofs.Memory.{Memory}
 use Rattle.rht_words.specs.Members.{In, IsDistinct}
 use Rattle.rht_words.proofs.Members.{count_below}
 use Rattle.rht_policy.specs.Mix.{bucket_of}
 use Rattle.rht_nest.specs.Tables.{table_seed}
-use Rattle.rht_ghost.proofs.Theory.Ghosts.{Part, Row, Top, has_entries, Table, Bucket, blank_bucket, Owner, Free, NodeHeld, First, Leaving, Behind, Taken, Ghost, Live, lock_bit, state_word, is_first, is_taken_by, seat_of, seated, table_at, has_table, table_of_slot, index_at, PageOwner, PageFree, PageHeld, PageOf, is_entry, entry_word}
+use Rattle.rht_ghost.proofs.Theory.Ghosts.{Part, Row, Top, has_entries, Table, Bucket, blank_bucket, Owner, Free, NodeHeld, First, Leaving, Behind, Taken, Ghost, Live, Retired, Back, unretired, IsSince, lock_bit, state_word, is_first, is_taken_by, seat_of, seated, table_at, has_table, table_of_slot, index_at, PageOwner, PageFree, PageHeld, PageOf, is_entry, entry_word}
 use Rattle.rht_ghost.proofs.Theory.Ways.{first_page, child, followed, IsSpareIn, StandsAs, IsNestedShape}
 
 -- the links behind nodes
@@ -30,11 +30,12 @@ list_of M node = M (Node node ListLink)
 
 -- no slot has a table before the current one that isn't retired, but for this slot
 abbrev pub AreRetired : Ghost → Option ℕ → Type 0
-AreRetired G slot = (s τ : ℕ) → G.slot s ≡ Live τ → τ < G.current → slot ≡ Some s
+AreRetired G slot = (s τ : ℕ) → unretired (G.slot s) ≡ Some τ → τ < G.current → slot ≡ Some s
 
 -- it is so still where the same table is the current one, and those before it that aren't retired were so before, in the same slots
 pub retired_stay : (G G' : Ghost) (slot : Option ℕ) → G'.current ≡ G.current
-    → ((s τ : ℕ) → G'.slot s ≡ Live τ → τ < G.current → G.slot s ≡ Live τ) → AreRetired G slot → AreRetired G' slot
+    → ((s τ : ℕ) → unretired (G'.slot s) ≡ Some τ → τ < G.current → unretired (G.slot s) ≡ Some τ) → AreRetired G slot
+    → AreRetired G' slot
 retired_stay G G' slot current live is s τ now l =
     let before : τ < G.current = omega (arith, l, current) in is s τ (live s τ now before) before
 
@@ -47,11 +48,31 @@ pub record IsThere (G : Ghost) (τ : ℕ) : Type 0 where
 abbrev pub AreThereFrom : Ghost → ℕ → Type 0
 AreThereFrom G τ = (σ : ℕ) → τ ≤ σ → σ < G.attached → IsThere G σ
 
--- which of the tables that were attached it is that a slot has, or had
+pub there_behind : (G : Ghost) (τ : ℕ) → AreThereFrom G τ → AreThereFrom G (τ + 1)
+there_behind G τ on σ later = on σ (omega (arith, later))
+
+-- which of the tables that were attached it is that a slot has: it is there, and so is each one behind it
 pub record IsAt (G : Ghost) (slot : ℕ) : Type 0 where
   pub table : ℕ
   pub attached : table < G.attached
   pub slot_is : (G.table table).slot ≡ slot
+  pub on : AreThereFrom G table
+
+pub at-there : {G : Ghost} {slot : ℕ} (at : IsAt G slot) → IsThere G at.table
+at-there {G} {slot} at = at.on at.table (omega arith) at.attached
+
+-- the tables that have these slots aren't before this one
+abbrev pub AreFrom : ℕ → Ghost → List ℕ → Type 0
+AreFrom low G slots = (slot : ℕ) → In slot slots → (at : IsAt G slot) → low ≤ at.table
+
+-- no other table that is there has a slot that one has
+pub one_slot : (G : Ghost) (τ σ : ℕ) → IsThere G τ → IsThere G σ → (G.table τ).slot ≡ (G.table σ).slot → τ ≡ σ
+one_slot G τ σ there other same = sym there.index ∙ ap (index_at G) same ∙ other.index
+
+-- so at each moment a slot has one table
+pub one_table : {G : Ghost} {slot : ℕ} (at more : IsAt G slot) → more.table ≡ at.table
+one_table {G} {slot} at more =
+    one_slot G more.table at.table (at-there more) (at-there at) (more.slot_is ∙ sym at.slot_is)
 
 module _ (env : Env) (mix : ℕ → ℕ → ℕ → ℕ) where
   -- the place of the word of a bucket, and which of the words of all pages stands at a place
@@ -139,12 +160,11 @@ module _ (env : Env) (mix : ℕ → ℕ → ℕ → ℕ) where
     pub attached : index_at G s < G.attached
     pub slot : (G.table (index_at G s)).slot ≡ s
 
-  -- The tables from the current one on are in use. Each table that was attached is there, and each that is there is right.
+  -- The tables from the current one on are in use, and each that is there is right.
   pub record TablesRight (M : Memory) (G : Ghost) : Type 0 where
     pub current_in : G.current < G.attached
     pub current_is : M CurrentTable ≡ (G.table G.current).slot
     pub force : (τ : ℕ) → G.current ≤ τ → τ < G.attached → G.slot (G.table τ).slot ≡ Live τ
-    pub there : (τ : ℕ) → τ < G.attached → IsThere G τ
     pub each : (τ : ℕ) → IsThere G τ → TableRight M G τ
     pub slots : (s : ℕ) → has_table (G.slot s) ≡ true → SlotIsOf G s
 
@@ -167,36 +187,41 @@ module _ (env : Env) (mix : ℕ → ℕ → ℕ → ℕ) where
       let of = (tables.slots s has).slot in
       record { has_slot = ap (λ t. has_table (G.slot t)) of ∙ has; index = ap (index_at G) of }
 
-  -- one that a caller knows by its slot is there, and those behind it are
-  pub at-on : {M : Memory} {G : Ghost} → TablesRight M G → (slot : ℕ) (at : IsAt G slot) → AreThereFrom G at.table
-  at-on {M} {G} tables slot at σ from = tables.there σ
-
-  pub at-there : {M : Memory} {G : Ghost} → TablesRight M G → (slot : ℕ) (at : IsAt G slot) → IsThere G at.table
-  at-there {M} {G} tables slot at = at-on tables slot at at.table (omega arith) at.attached
-
+  -- one that a caller knows by its slot is right
   pub at-right : {M : Memory} {G : Ghost} → TablesRight M G → (slot : ℕ) (at : IsAt G slot) → TableRight M G at.table
-  at-right {M} {G} tables slot at = tables.each at.table (at-there tables slot at)
+  at-right {M} {G} tables slot at = tables.each at.table (at-there at)
+
+  -- so is the current one known
+  abbrev pub current-at : {M : Memory} {G : Ghost} → TablesRight M G → (slot : ℕ) → (G.table G.current).slot ≡ slot → IsAt G slot
+  current-at {M} {G} tables slot is =
+      record { table = G.current; attached = tables.current_in; slot_is = is; on = force-there tables }
 
   -- it was attached
   pub there-attached : {M : Memory} {G : Ghost} → TablesRight M G → (τ : ℕ) → IsThere G τ → τ < G.attached
   there-attached {M} {G} tables τ there =
       let of = tables.slots (G.table τ).slot there.has_slot in omega (arith, of.attached, there.index)
 
-  -- and no other one has its slot
-  pub one_slot : (G : Ghost) (τ σ : ℕ) → IsThere G τ → IsThere G σ → (G.table τ).slot ≡ (G.table σ).slot → τ ≡ σ
-  one_slot G τ σ there other same = sym there.index ∙ ap (index_at G) same ∙ other.index
-
-  -- at each moment a slot has one table
-  pub one_table : {M : Memory} {G : Ghost} → TablesRight M G → (slot : ℕ) (at more : IsAt G slot) → more.table ≡ at.table
-  one_table {M} {G} tables slot at more =
-      one_slot G more.table at.table (at-there tables slot more) (at-there tables slot at) (more.slot_is ∙ sym at.slot_is)
-
   -- The state word of each slot says who has it, and the work lock is set exactly while a caller has it. While none has it each table
-  -- before the current one that has a slot is retired.
+  -- before the current one that has a slot is retired. And the caller that has it alone gives back what was a table's.
   pub record SlotsRight (M : Memory) (G : Ghost) : Type 0 where
     pub states : (s : ℕ) → s < 8 → M (Slot s StateWord) ≡ state_word (G.slot s)
     pub worker_is : M WorkLock ≡ lock_bit G.worker
     pub retired : G.worker ≡ None → AreRetired G None
+    pub back : (s c : ℕ) → G.slot s ≡ Back c → G.worker ≡ Some c
+
+  -- a caller's section is open exactly while its word is odd
+  abbrev pub IsTurned : Option ℕ → ℕ → Type 0
+  IsTurned None word = word % 2 ≡ 0
+  IsTurned (Some low) word = word % 2 ≡ 1
+
+  -- Section words say who has a section open: one of the callers. In the slot of a retired table stands the word of each section that comes to it.
+  -- And the section of a caller that has locked a bucket comes to the bucket's table.
+  pub record SectionsRight (M : Memory) (G : Ghost) : Type 0 where
+    pub words : (c : ℕ) → c < 16 → IsTurned (G.from c) (M (Section c))
+    pub callers : (c low : ℕ) → G.from c ≡ Some low → c < env.geometry.callers
+    pub kept : (s τ c : ℕ) → s < 8 → G.slot s ≡ Retired τ → IsSince (G.from c) τ
+        → M (Slot s (LoadedSection c)) ≡ M (Section c)
+    pub locked : (j c : ℕ) → (G.bucket j).holder ≡ Some c → IsSince (G.from c) (table_at G j)
 
   -- the word with this index among those of all pages is the word of no table's bucket
   abbrev pub IsNoBucket : Ghost → PageOwner → ℕ → Type 0
@@ -361,6 +386,7 @@ module _ (env : Env) (mix : ℕ → ℕ → ℕ → ℕ) where
   pub record Whole (M : Memory) (G : Ghost) : Type 0 where
     pub tables : TablesRight M G
     pub slots : SlotsRight M G
+    pub sections : SectionsRight M G
     pub pages : PagesRight M G
     pub buckets : BucketsRight M G
     pub entries : EntriesRight M G

@@ -2,8 +2,8 @@
 //! and the second for the odd ones, and its buckets are in the pages to which these lead.
 
 use super::{
-    ALL, BEGUN, FIRST_ENTRY, LET_GO, alone, assert_work, begun, behind, emptied, empty, locked,
-    made, no_slot, published, small, two,
+    ALL, BEGUN, FIRST_ENTRY, LET_GO, TAKEN, alone, assert_work, begun, behind, emptied, empty,
+    held_back, locked, made, no_slot, published, small, taken, two,
 };
 use crate::asserts::{assert_same, said_behind};
 use rht_model::Reply;
@@ -32,13 +32,15 @@ fn a_nested_table_gets_no_flat_one(rt: HostRuntime) {
     // The nested one is the current table, in page 0, or is behind that, in page 2.
     let only = alone(39, 4); // 7 + 32 * 1
     let last = two(2_087, 4); // 7 + 32 * 1 + 1024 * 2
-    let founds: [&[(Op, u64)]; 2] = [&only, &last];
-    let wants: [&[(Op, u64)]; 2] = [&no_slot(), &no_run];
-    for found in founds {
-        for want in wants {
-            assert_work(&rt, small(false), &[found, want, &LET_GO], refused);
-        }
-    }
+    let (begins, held, no_slot) = (taken(1, 0), held_back(), no_slot());
+    let steps: [&[(Op, u64)]; 5] = [&TAKEN, &held, &only, &no_slot, &LET_GO];
+    assert_work(&rt, small(false), &steps, refused);
+    let steps: [&[(Op, u64)]; 5] = [&TAKEN, &held, &last, &no_slot, &LET_GO];
+    assert_work(&rt, small(false), &steps, refused);
+    let steps: [&[(Op, u64)]; 4] = [&begins, &only, &no_run, &LET_GO];
+    assert_work(&rt, small(false), &steps, refused);
+    let steps: [&[(Op, u64)]; 4] = [&begins, &last, &no_run, &LET_GO];
+    assert_work(&rt, small(false), &steps, refused);
 }
 
 /// Bucket 4 of the nested table is at 380. Its only entry is node 0, with port 4, and goes to bucket 4
@@ -70,7 +72,8 @@ fn a_nested_table_is_emptied_into_a_flat_one(rt: HostRuntime) {
     let lasts: [(u64, &[(Op, u64)]); 2] = [(0, &[]), (5, &late)];
     for (entry, last) in lasts {
         let mut work = begun(&rt, large());
-        let mut next = said_behind(&rt, &mut work, Next::Go, &alone(39, 3), moved);
+        let mut next = said_behind(&rt, &mut work, Next::Go, &taken(0, 0), moved);
+        next = said_behind(&rt, &mut work, next, &alone(39, 3), moved);
         // a flat table of its size in the pages 2 and 3: 7 + 1024 * 2
         next = said_behind(&rt, &mut work, next, &made(252, 12, 2_055), moved);
         next = said_behind(&rt, &mut work, next, &attached, moved);
@@ -100,7 +103,8 @@ fn the_way_to_a_bucket_leads_over_two_entries(rt: HostRuntime) {
     let moved = Reply::Moved { again: false };
     // 8,192 buckets, nested: 13 + 32 * 1
     let mut work = begun(&rt, small(false));
-    let mut next = said_behind(&rt, &mut work, Next::Go, &two(1_027, 4), moved);
+    let mut next = said_behind(&rt, &mut work, Next::Go, &taken(1, 0), moved);
+    next = said_behind(&rt, &mut work, next, &two(1_027, 4), moved);
     next = said_behind(
         &rt,
         &mut work,
@@ -167,7 +171,8 @@ fn nested_behind() -> [(Op, u64); 4] {
 fn a_move_stops_where_a_nested_table_came(rt: HostRuntime) {
     // Node 0 is moved. Then the last table is a nested one, and node 1 stays where it is.
     let kept = [(Op::store(314, 4), 5)];
-    let steps: [&[(Op, u64)]; 6] = [
+    let steps: [&[(Op, u64)]; 7] = [
+        &taken(1, 0),
         &two(1_027, 4),
         &BEGUN,
         &FIRST_ENTRY,
@@ -195,9 +200,10 @@ fn moved_on() -> [(Op, u64); 8] {
 #[test]
 fn a_later_call_goes_on_where_that_one_stopped(rt: HostRuntime) {
     let moved = Reply::Moved { again: true };
-    let [lock, opened, current, ..] = alone(2, 4);
-    let steps: [&[(Op, u64)]; 10] = [
-        &[lock, opened, current],
+    let [opened, current, ..] = alone(2, 4);
+    let steps: [&[(Op, u64)]; 11] = [
+        &taken(1, 1),
+        &[opened, current],
         &nested_behind(),
         &[(Op::load(2), 4)],
         &attached_behind_two(),
