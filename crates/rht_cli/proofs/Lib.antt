@@ -8,6 +8,8 @@ pub mod RunTexts
 pub mod GenNodes
 -- the endings of a run of that script are as many of each sort as its commands ask for
 pub mod GenCounts
+-- the headline, of what `run` has printed
+pub mod Headlines
 -- what a replay writes
 pub mod ReplayTexts
 -- what the verdict on a claimed history is printed as

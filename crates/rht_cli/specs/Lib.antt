@@ -12,3 +12,5 @@ pub mod VerdictText
 pub mod Forms
 -- how a run can end, and what each end means
 pub mod Endings
+-- the headline
+pub mod Headline

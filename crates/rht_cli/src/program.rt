@@ -17,6 +17,7 @@ ghost use Rattle.rht_cli.specs.declared.form.Form.{Form};
 ghost use Rattle.rht_cli.specs.declared.form.Form.TheVariants.{Run, Replay, Gen, Check};
 ghost use Rattle.rht_cli.specs.Forms.{form_of, HasForm, ReadsInput, HasInput, IsFaultOf};
 ghost use Rattle.rht_cli.specs.Endings.{IsDone, IsCutShort, Serves, ServesUnread, served_by, replayed_by, ending_of, status_line};
+ghost use Rattle.rht_cli.specs.Headline.{Headline};
 
 use crate::ending::{Ending, Failure};
 use crate::form::Form;
@@ -49,6 +50,11 @@ pub fn run<R: Threads + Wait + Sync, S: Source, O: Sink, E: Sink, G: Gate + Sync
     // 0: the form's input was read to its end, where it reads any, and its whole text was written.
     ensures done { result ≡ 0 → HasForm (map string_bytes words.now.items)
         (λ form. IsDone form (S.left source.old) (S.left source.new) (O.held out.old) (O.held out.new)) }
+
+    // The headline, for a script that was run: the text is that of a run which one legal history fits. In every such run look-ups
+    // find what stays bound, and nothing is given again that an open section could reach.
+    ensures headline { result ≡ 0 → form_of (map string_bytes words.now.items) ≡ Some Run
+        → Headline (S.left source.old) (S.left source.new) (O.held out.old) (O.held out.new) }
 
     // 1: exactly where the words are no command form. Nothing is read, and nothing written to out.
     ensures usage { (result ≡ 1) ↔ (form_of (map string_bytes words.now.items) ≡ None) }

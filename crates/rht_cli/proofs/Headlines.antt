@@ -1,0 +1,74 @@
+-- The headline, of a text that `run` has printed: what stands behind the text (`HasRun`) says it, and the laws of every run say the rest.
+use Rattle.std.proofs.Common.{◌≡◌, ℕ, Bool, List, Option, Result, Ok, Err, sym, ap, ◌∙◌, subst, arith}
+use Rattle.std.specs.Io.KnownBytes.{Appends}
+use Rattle.rht_words.specs.declared.config.Config.{Config}
+use Rattle.rht_policy.specs.Mix.{mix_named}
+use Rattle.rht_model.specs.declared.bindings.Closed.{Closed}
+use Rattle.rht_model.specs.declared.history.Call.{Call}
+use Rattle.rht_model.specs.declared.history.Entry.{Entry}
+use Rattle.rht_model.specs.Endings.{Ending}
+use Rattle.rht_model.specs.Histories.{IsLegal, bindings_left}
+use Rattle.rht_model.specs.Listing.{Lists}
+use Rattle.rht_model.specs.Multimap.{unbound}
+use Rattle.rht_core.specs.Runs.{IsAdmitted}
+use Rattle.rht_core.specs.Serving.{IsServedRun}
+use Rattle.rht_core.specs.ToldHistories.{entries_by, entries_of_finished}
+use Rattle.rht_core.proofs.Finding.LookupLaws.{finds_what_stays}
+use Rattle.rht_core.proofs.Returning.SafeInRuns.{safe}
+use Rattle.rht_run.specs.ServedRuns.{tag_of}
+use Rattle.rht_cli.specs.declared.form.Form.{Form}
+use Rattle.rht_cli.specs.declared.form.Form.TheVariants.{Run}
+use Rattle.rht_cli.specs.declared.ending.Failure.{Failure}
+use Rattle.rht_cli.specs.declared.ending.Failure.TheVariants.{Fault, Read, Write, Memory}
+use Rattle.rht_cli.specs.Endings.{Serves, ending_of, status_of}
+use Rattle.rht_cli.specs.Forms.{Prints}
+use Rattle.rht_cli.specs.Headline.{FindsAndSpares, Headline}
+
+-- so it is of every run that serves commands
+finds_and_spares : (config : Config) (auto : Bool) (commands : List (ℕ × Call)) (endings : List (List Ending)) (closed : Closed)
+    → (such : IsServedRun (tag_of config.hash) (mix_named config) config auto commands endings closed)
+    → FindsAndSpares (tag_of config.hash) (mix_named config) such.env such.events
+finds_and_spares config auto commands endings closed such =
+    let M : Type 0 = tag_of config.hash in
+    let admitted = subst (λ (k : Config). IsAdmitted k.kind such.events) (sym such.config_same) such.admitted in
+    record {
+      found = λ c. finds_what_stays M (mix_named config) such.env such.events c admitted;
+      safe = safe M (mix_named config) such.env such.events admitted;
+    }
+
+Headline-printed : (left left_after held held_after : Option (List ℕ)) (text : List ℕ) → Prints Run left left_after text
+    → Appends held held_after text → Headline left left_after held held_after
+unfolding Prints
+Headline-printed left left_after held held_after text printed written =
+    let said = printed.said in
+    let done = printed.is_text in
+    let tells = done.run.tells in
+    record {
+      script = said;
+      read = printed.read;
+      replies = done.endings;
+      last = done.closed;
+      printed = subst (λ (t : List ℕ). Appends held held_after t) done.written written;
+      run = done.run.served;
+      history = tells.numbered;
+      legal = subst (λ (h : List Entry). IsLegal said.config.kind h) tells.without_numbers tells.told.legal;
+      fits = tells.fits;
+      calls = λ c. ap (entries_by c) (sym tells.without_numbers) ∙ tells.told.entries c
+          ∙ ap (entries_of_finished c) (tells.dones_are c);
+      leaves = subst (λ (h : List Entry). Lists done.closed.bindings.pairs (bindings_left said.config.kind unbound h))
+          tells.without_numbers tells.told.leaves;
+      every = λ such. finds_and_spares said.config said.auto said.commands done.endings done.closed such;
+    }
+
+-- which `run` has printed where it ends with status 0
+pub Headline-served : {S O : Type 0} (left : S → Option (List ℕ)) (sfaults : S → ℕ) (held : O → Option (List ℕ)) (ofaults : O → ℕ)
+    (form : Form) (s s' : S) (o o' : O) (served : Result (Unit {0}) Failure)
+    → Serves left sfaults held ofaults form s s' o o' served → Run ≡ form → status_of (ending_of served) ≡ 0
+    → Headline (left s) (left s') (held o) (held o')
+Headline-served left sfaults held ofaults form s s' o o' (Ok all) serves is zero =
+    Headline-printed (left s) (left s') (held o) (held o') serves.text
+    (subst (λ (f : Form). Prints f (left s) (left s') serves.text) (sym is) serves.printed) serves.written
+Headline-served left sfaults held ofaults form s s' o o' (Err (Fault fault)) serves is zero = absurd (omega (arith, zero))
+Headline-served left sfaults held ofaults form s s' o o' (Err Read) serves is zero = absurd (omega (arith, zero))
+Headline-served left sfaults held ofaults form s s' o o' (Err Write) serves is zero = absurd (omega (arith, zero))
+Headline-served left sfaults held ofaults form s s' o o' (Err Memory) serves is zero = absurd (omega (arith, zero))
