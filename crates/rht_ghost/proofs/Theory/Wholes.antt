@@ -11,6 +11,7 @@ use Rattle.rht_words.specs.Chains.{IsSegment}
 use Rattle.rht_words.proofs.Memory.{Memory}
 use Rattle.rht_words.specs.Members.{In, IsDistinct}
 use Rattle.rht_words.proofs.Members.{count_below}
+use Rattle.rht_words.specs.Ports.{IsPort}
 use Rattle.rht_policy.specs.Mix.{bucket_of}
 use Rattle.rht_nest.specs.Tables.{table_seed}
 use Rattle.rht_ghost.proofs.Theory.Ghosts.{Part, Row, Top, has_entries, Table, Bucket, blank_bucket, Owner, Free, NodeHeld, First, Leaving, Behind, Taken, Ghost, Live, Retired, Back, unretired, IsSince, lock_bit, state_word, is_first, is_taken_by, seat_of, seated, table_at, has_table, table_of_slot, index_at, PageOwner, PageFree, PageHeld, PageOf, is_entry, entry_word}
@@ -354,7 +355,7 @@ module _ (env : Env) (mix : ℕ → ℕ → ℕ → ℕ) where
     pub bound_to : (port n : ℕ) (behind : List ℕ) → G.bound port ≡ n ∷ behind → IsBoundTo M G port n behind
     pub single : env.config.kind ≡ Single → (port n : ℕ) (behind : List ℕ) → G.bound port ≡ n ∷ behind
         → behind ≡ []
-    pub small : (port n : ℕ) (behind : List ℕ) → G.bound port ≡ n ∷ behind → port < 2 ^ 32
+    pub small : (port n : ℕ) (behind : List ℕ) → G.bound port ≡ n ∷ behind → IsPort port
 
   -- a node that was taken out of a list was so by one of the callers
   abbrev pub IsBuilt : Owner → Type 0
