@@ -64,7 +64,12 @@ fn assert_bind(
     steps: &[(Op, u64)],
     reply: Reply,
 ) {
-    assert_parts(rt, begun(rt, config, 5, false), &[filling, steps], reply);
+    assert_parts(
+        rt,
+        begun(rt, config, Port::plain(5), false),
+        &[filling, steps],
+        reply,
+    );
 }
 
 #[test]
@@ -240,7 +245,7 @@ fn walk_of_16() -> [(Op, u64); 36] {
 fn assert_grows(rt: &impl Abort, once: bool, behind: [&[(Op, u64)]; 3], reply: Reply) {
     let [growing, ended, anew] = behind;
     let parts: [&[(Op, u64)]; 5] = [&node_0_filled(), &walk_of_16(), growing, ended, anew];
-    assert_parts(rt, begun(rt, roomy(), 5, once), &parts, reply);
+    assert_parts(rt, begun(rt, roomy(), Port::plain(5), once), &parts, reply);
 }
 
 /// From the future of the chain's table, which has none, to the making of a table of 64 buckets in

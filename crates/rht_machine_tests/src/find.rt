@@ -6,7 +6,7 @@ use crate::asserts::{Machine, assert_performs};
 use rht_find::Find;
 use rht_model::Reply;
 use rht_policy::Low;
-use rht_words::{Config, Env, Hash, Kind, Next, Op};
+use rht_words::{Config, Env, Hash, Kind, Next, Op, Port};
 use std::process::Abort;
 
 /// What a look-up performs, with what each operation finds, and its reply.
@@ -36,7 +36,7 @@ fn assert_looks(rt: &impl Abort, nodes: u32, rewalks: u32, cases: &[Case]) {
     };
     assert!(rt; config.is_settled());
     for (steps, reply) in cases {
-        let find = Find::<Low>::new(Env::new(config), 3, 5);
+        let find = Find::<Low>::new(Env::new(config), 3, Port::plain(5));
         assert_performs(rt, find, steps, *reply);
     }
 }

@@ -98,7 +98,11 @@ fn a_walk_shows_each_bucket_in_order(rt: HostRuntime) -> Result<(), Fail> {
                 (Op::add(11, 1), 1),
             ],
             reply: ended(3),
-            pairs: &[(5, 9), (1, 7), (3, 8)],
+            pairs: &[
+                (Port::plain(5), 9),
+                (Port::plain(1), 7),
+                (Port::plain(3), 8),
+            ],
         },
         // the same table without ports; what was in the room goes
         Case {
@@ -152,7 +156,7 @@ fn a_walk_goes_on_from_its_cursor(rt: HostRuntime) -> Result<(), Fail> {
                 (Op::add(11, 1), 1),
             ],
             reply: Reply::Walked { len: 2, next },
-            pairs: &[(5, 9), (1, 7)],
+            pairs: &[(Port::plain(5), 9), (Port::plain(1), 7)],
         },
         // The last bucket ends with enough, and it is the table's end all the same.
         Case {
@@ -172,7 +176,7 @@ fn a_walk_goes_on_from_its_cursor(rt: HostRuntime) -> Result<(), Fail> {
                 (Op::add(11, 1), 3),
             ],
             reply: ended(1),
-            pairs: &[(3, 8)],
+            pairs: &[(Port::plain(3), 8)],
         },
         // A chain that ends elsewhere, with no table behind: its bucket ends. The next one is enough.
         Case {
@@ -192,7 +196,7 @@ fn a_walk_goes_on_from_its_cursor(rt: HostRuntime) -> Result<(), Fail> {
                 (Op::add(11, 1), 5),
             ],
             reply: Reply::Walked { len: 1, next },
-            pairs: &[(5, 9)],
+            pairs: &[(Port::plain(5), 9)],
         },
     ];
     assert_walks(&rt, 8, room, &cases);
@@ -301,7 +305,7 @@ fn a_missing_page_has_no_ports(rt: HostRuntime) -> Result<(), Fail> {
             (Op::add(11, 1), 1),
         ],
         reply: ended(1),
-        pairs: &[(5, 9)],
+        pairs: &[(Port::plain(5), 9)],
     }];
     assert_walks(&rt, 8, room, &cases);
     Ok(())
@@ -339,7 +343,7 @@ fn a_walk_visits_as_many_nodes_as_there_are(rt: HostRuntime) -> Result<(), Fail>
             (Op::add(11, 1), 1),
         ],
         reply: ended(2),
-        pairs: &[(5, 9), (1, 7)],
+        pairs: &[(Port::plain(5), 9), (Port::plain(1), 7)],
     }];
     assert_walks(&rt, 2, room, &cases);
     Ok(())

@@ -69,7 +69,7 @@ fn assert_owners(
 ) -> Result<(), Fail> {
     assert_eq!(rt; words.len(), geometry.words());
     let owners = owners_of(alloc, geometry, words, port)?;
-    assert_eq!(rt; owners.as_slice(), want, "at {port}");
+    assert_eq!(rt; owners.as_slice(), want, "at {port:?}");
     Ok(())
 }
 
@@ -142,21 +142,49 @@ fn a_missing_page_binds_nothing(rt: HostRuntime) -> Result<(), Fail> {
     let one_level = [(24, ONE_LEVEL)];
     let two_levels = [(24, TWO_LEVELS)];
     let cases: [OwnersCase; 11] = [
-        ([&one_level, &ONE_PAGE, &node_0, &[]], 6, &[9]),
-        ([&one_level, &ONE_PAGE, &node_0, &[]], 5, &[]),
+        ([&one_level, &ONE_PAGE, &node_0, &[]], Port::plain(6), &[9]),
+        ([&one_level, &ONE_PAGE, &node_0, &[]], Port::plain(5), &[]),
         // where the page of its bucket is missing the node isn't met
-        ([&one_level, &[], &node_0, &[]], 6, &[]),
+        ([&one_level, &[], &node_0, &[]], Port::plain(6), &[]),
         // the node behind the other entry is met in bucket 7, whatever its key is
-        ([&one_level, &[(315, 2)], &node_0, &[]], 6, &[9]),
+        (
+            [&one_level, &[(315, 2)], &node_0, &[]],
+            Port::plain(6),
+            &[9],
+        ),
         // what is behind is met too
-        ([&one_level, &ONE_PAGE, &node_0, &behind], 6, &[9]),
-        ([&one_level, &ONE_PAGE, &node_0, &behind], 5, &[7]),
-        ([&one_level, &[], &node_0, &behind], 6, &[]),
-        ([&two_levels, &TWO_PAGES, &node_2, &[]], 647, &[4, 8]),
-        ([&two_levels, &TWO_PAGES, &node_2, &[]], 646, &[]),
+        (
+            [&one_level, &ONE_PAGE, &node_0, &behind],
+            Port::plain(6),
+            &[9],
+        ),
+        (
+            [&one_level, &ONE_PAGE, &node_0, &behind],
+            Port::plain(5),
+            &[7],
+        ),
+        ([&one_level, &[], &node_0, &behind], Port::plain(6), &[]),
+        (
+            [&two_levels, &TWO_PAGES, &node_2, &[]],
+            Port::plain(647),
+            &[4, 8],
+        ),
+        (
+            [&two_levels, &TWO_PAGES, &node_2, &[]],
+            Port::plain(646),
+            &[],
+        ),
         // the upper page is missing, or the lower one
-        ([&two_levels, &[(381, 3)], &node_2, &[]], 647, &[]),
-        ([&two_levels, &[(315, 2)], &node_2, &behind], 647, &[]),
+        (
+            [&two_levels, &[(381, 3)], &node_2, &[]],
+            Port::plain(647),
+            &[],
+        ),
+        (
+            [&two_levels, &[(315, 2)], &node_2, &behind],
+            Port::plain(647),
+            &[],
+        ),
     ];
     assert_stands(&rt, rt.alloc(), &cases)
 }
