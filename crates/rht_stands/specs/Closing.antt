@@ -1,6 +1,6 @@
 -- What the words of a table say at its closing: what is bound, the size of the current table, and how many ports are bound.
 -- It is said of any words. Below it stand the lists from which the bindings are made.
-use Rattle.std.specs.Prelude.{◌≡◌, ℕ, ◌^◌, ◌<◌, ◌≤◌, ◌==◌, Bool, true, false, Option, Some, List, [], ◌∷◌, map, filter, length, replicate, All, slice_index_or, slice_set, vec_capacity}
+use Rattle.std.specs.Prelude.{◌≡◌, ℕ, ◌<◌, ◌≤◌, ◌==◌, Bool, true, false, Option, Some, List, [], ◌∷◌, map, filter, length, replicate, All, slice_index_or, slice_set, vec_capacity}
 use Rattle.std.specs.Option.{option_map}
 use Rattle.std.specs.List.{find, flat_map, range_with_len}
 use Rattle.std.specs.List.Sorted.{IsStrictlyIncreasing}
