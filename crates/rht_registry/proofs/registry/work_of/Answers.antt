@@ -21,7 +21,7 @@ serve-reply-requires-clause-kind g c =
     let within : i < length items = omega arith in
     let command =
     next-command (IsCommandFor config) items commands i (0, Bind 0 0 false) c.loop-command.invariant.items
-    (sound-commands config commands c.requires.can.sound.commands) within in
+    (sound-commands c.args.script.now.form config commands c.requires.can.sound.commands) within in
     subst (λ (k : Config). IsBuiltFor k.kind (get_or items i (0, Bind 0 0 false)).1) (sym c.requires.can.config) command.kind
 
 pub loop-command-preserved : goal.loop-command-preserved
