@@ -1,10 +1,11 @@
 //! Binds, look-ups, releases and counts in a table of one owner for each port.
 
+use super::asked::Asked;
 use super::{
     BOUND, FIND_5, RELEASED, assert_run, begins, bind, ends, enrolls, filled, for_two, linked,
     located, opened, release, replies, small, steps,
 };
-use rht_model::{Call, Reply};
+use rht_model::Reply;
 use rht_policy::{Lookup3, Low};
 use rht_words::{Config, Hash, Op};
 use std::test::Fail;
@@ -49,15 +50,15 @@ fn releases_and_counts(rt: HostRuntime) -> Result<(), Fail> {
         small(),
         &[
             enrolls(0),
-            replies(Call::Count, Reply::Counted { count: 0 }),
+            replies(Asked::Count, Reply::Counted { count: 0 }),
             replies(release(5, 9), absent),
             replies(bind(5, 9), BOUND),
             replies(bind(69, 7), BOUND),
-            begins(0, Call::Count),
+            begins(0, Asked::Count),
             ends(
                 0,
                 &[(Op::load(2), 2)],
-                Call::Count,
+                Asked::Count,
                 Reply::Counted { count: 2 },
             ),
             replies(release(5, 7), absent),
@@ -65,12 +66,12 @@ fn releases_and_counts(rt: HostRuntime) -> Result<(), Fail> {
             replies(release(5, 9), RELEASED),
             replies(release(5, 9), absent),
             replies(FIND_5, Reply::Missing),
-            replies(Call::Find { port: 69 }, found),
-            replies(Call::Count, Reply::Counted { count: 1 }),
+            replies(Asked::Find { port: 69 }, found),
+            replies(Asked::Count, Reply::Counted { count: 1 }),
             replies(bind(5, 3), BOUND),
             replies(release(69, 7), RELEASED),
             replies(release(5, 3), RELEASED),
-            replies(Call::Count, Reply::Counted { count: 0 }),
+            replies(Asked::Count, Reply::Counted { count: 0 }),
         ],
     )
 }
@@ -153,7 +154,7 @@ fn a_table_with_the_mixed_hash(rt: HostRuntime) -> Result<(), Fail> {
         (Op::load(284), 8),
         (Op::add(8, 1), 3),
     ];
-    let find = Call::Find { port: 1 };
+    let find = Asked::Find { port: 1 };
     assert_run::<Lookup3>(
         &rt,
         rt.alloc(),
@@ -169,8 +170,8 @@ fn a_table_with_the_mixed_hash(rt: HostRuntime) -> Result<(), Fail> {
             replies(bind(69, 7), BOUND),
             replies(bind(5, 3), Reply::Exists { owner: 9 }),
             replies(FIND_5, Reply::Found { owner: 9 }),
-            replies(Call::Find { port: 69 }, Reply::Found { owner: 7 }),
-            replies(Call::Find { port: 6 }, Reply::Missing),
+            replies(Asked::Find { port: 69 }, Reply::Found { owner: 7 }),
+            replies(Asked::Find { port: 6 }, Reply::Missing),
         ],
     )
 }
