@@ -4,7 +4,7 @@ ghost use Rattle.std.specs.Prelude.{◌≡◌, true, IfSome};
 ghost use Rattle.rht_core.specs.Locals.{is_idle};
 ghost use Rattle.rht_run.specs.Passes.{IsPassOf, AreNew, IsNew};
 
-use crate::asserts::assert_same;
+use crate::asserts::{assert_pairs, assert_same};
 use crate::run::SMALL;
 use rht_model::Reply;
 use rht_policy::{Low, Mix};
@@ -45,8 +45,8 @@ fn both<M: Mix + Send + Sync, R: Threads + Wait + Sync>(
 {
     join(
         rt,
-        move || work(rt, table, first, 5),
-        move || work(rt, table, second, 6),
+        move || work(rt, table, first, Port::plain(5)),
+        move || work(rt, table, second, Port::plain(6)),
     )
 }
 
@@ -104,8 +104,8 @@ fn two_threads_share_a_registry(rt: HostRuntime) -> Result<(), Fail> {
     let (first, second) = pair(&table, passes).ok_or("two passes")?;
     let (mut first, mut second) = both(&rt, &table, first, second);
     let counted = table.count(&mut first);
-    let found = table.find(&mut first, 6);
-    let other = table.find(&mut second, 5);
+    let found = table.find(&mut first, Port::plain(6));
+    let other = table.find(&mut second, Port::plain(5));
     let want = [
         Reply::Counted { count: 2 },
         Reply::Found { owner: 2 },
@@ -113,6 +113,6 @@ fn two_threads_share_a_registry(rt: HostRuntime) -> Result<(), Fail> {
     ];
     assert_same(&rt, [counted, found, other], want);
     let pairs = walked(rt.alloc(), &table, &mut first, 1)?.ok_or("a whole walk")?;
-    assert_same(&rt, pairs.as_slice(), &[(5, 2), (6, 2)]);
+    assert_pairs(&rt, pairs.as_slice(), &[(5, 2), (6, 2)]);
     Ok(())
 }
