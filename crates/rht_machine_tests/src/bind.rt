@@ -8,7 +8,7 @@ use crate::asserts::{Machine, assert_parts};
 use rht_bind::Bind;
 use rht_model::Reply;
 use rht_policy::Low;
-use rht_words::{Config, Env, Hash, Kind, Next, Op, Port};
+use rht_words::{Config, Env, Hash, Kind, Next, Op, port_of};
 use std::process::Abort;
 
 /// The operations that take node 0 and fill it, with what each finds. Behind them the section is
@@ -38,9 +38,9 @@ fn small(kind: Kind, max: u32) -> Config {
 }
 
 /// A bind of the port to owner 9 in this table, before its first operation.
-fn begun(rt: &impl Abort, config: Config, port: Port, once: bool) -> Bind<Low> {
+fn begun(rt: &impl Abort, config: Config, port: u64, once: bool) -> Bind<Low> {
     assert!(rt; config.is_settled());
-    Bind::new(Env::new(config), 2, port, 9, once)
+    Bind::new(Env::new(config), 2, port_of(port), 9, once)
 }
 
 impl Machine for Bind<Low> {
@@ -64,12 +64,7 @@ fn assert_bind(
     steps: &[(Op, u64)],
     reply: Reply,
 ) {
-    assert_parts(
-        rt,
-        begun(rt, config, Port::plain(5), false),
-        &[filling, steps],
-        reply,
-    );
+    assert_parts(rt, begun(rt, config, 5, false), &[filling, steps], reply);
 }
 
 #[test]
@@ -245,7 +240,7 @@ fn walk_of_16() -> [(Op, u64); 36] {
 fn assert_grows(rt: &impl Abort, once: bool, behind: [&[(Op, u64)]; 3], reply: Reply) {
     let [growing, ended, anew] = behind;
     let parts: [&[(Op, u64)]; 5] = [&node_0_filled(), &walk_of_16(), growing, ended, anew];
-    assert_parts(rt, begun(rt, roomy(), Port::plain(5), once), &parts, reply);
+    assert_parts(rt, begun(rt, roomy(), 5, once), &parts, reply);
 }
 
 /// From the future of the chain's table, which has none, to the making of a table of 64 buckets in

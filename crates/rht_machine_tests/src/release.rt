@@ -9,7 +9,7 @@ use crate::asserts::assert_same;
 use rht_model::{Reply, Room};
 use rht_policy::Low;
 use rht_release::{All, Rebind, Release};
-use rht_words::{Config, Env, Hash, Kind, Next, Op, Port, apply};
+use rht_words::{Config, Env, Hash, Kind, Next, Op, apply, port_of};
 use std::process::Abort;
 use std::test::Fail;
 
@@ -208,13 +208,13 @@ fn assert_steps<S: Steps>(
 /// A release of the port from the owner makes these steps.
 fn assert_release(
     rt: &impl Abort,
-    of: (Port, u32),
+    of: (u64, u32),
     changes: &[(usize, u64)],
     parts: &[&[Op]],
     end: (Reply, Option<u32>),
 ) {
     assert!(rt; CONFIG.is_settled());
-    let machine = Release::<Low>::new(Env::new(CONFIG), 0, of.0, of.1);
+    let machine = Release::<Low>::new(Env::new(CONFIG), 0, port_of(of.0), of.1);
     assert_steps(rt, machine, changes, parts, end);
 }
 
@@ -230,27 +230,15 @@ fn releases_of_ports_with_one_owner(rt: HostRuntime) {
     ];
     // Three tenths of 64 buckets are 19.
     let parts: [&[Op]; 2] = [&way(), &of_69];
-    assert_release(&rt, (Port::plain(69), 1), &[], &parts, (KICK, Some(1)));
-    assert_release(
-        &rt,
-        (Port::plain(69), 1),
-        &[(2, 19)],
-        &parts,
-        (KICK, Some(1)),
-    );
-    assert_release(
-        &rt,
-        (Port::plain(69), 1),
-        &[(2, 20)],
-        &parts,
-        (NO_KICK, Some(1)),
-    );
+    assert_release(&rt, (69, 1), &[], &parts, (KICK, Some(1)));
+    assert_release(&rt, (69, 1), &[(2, 19)], &parts, (KICK, Some(1)));
+    assert_release(&rt, (69, 1), &[(2, 20)], &parts, (NO_KICK, Some(1)));
     let config = Config {
         shrink: false,
         ..CONFIG
     };
     assert!(rt; config.is_settled());
-    let machine = Release::<Low>::new(Env::new(config), 0, Port::plain(69), 1);
+    let machine = Release::<Low>::new(Env::new(config), 0, port_of(69), 1);
     assert_steps(&rt, machine, &[], &parts, (NO_KICK, Some(1)));
     let of_133 = [
         Op::load(300),
@@ -262,16 +250,16 @@ fn releases_of_ports_with_one_owner(rt: HostRuntime) {
         Op::add(8, 1),
     ];
     let parts: [&[Op]; 3] = [&way(), &on_to_133(), &of_133];
-    assert_release(&rt, (Port::plain(133), 2), &[], &parts, (KICK, Some(4)));
+    assert_release(&rt, (133, 2), &[], &parts, (KICK, Some(4)));
 }
 
 #[test]
 fn releases_of_ports_that_the_first_table_has_not(rt: HostRuntime) {
     let absent = (Reply::Absent, None);
     let parts: [&[Op]; 2] = [&way_to_entry(), &turn()];
-    assert_release(&rt, (Port::plain(69), 1), &[NESTED], &parts, absent);
+    assert_release(&rt, (69, 1), &[NESTED], &parts, absent);
     let parts: [&[Op]; 4] = [&way(), &on_to_133(), &on_to_the_end(), &turn()];
-    assert_release(&rt, (Port::plain(197), 3), &[], &parts, absent);
+    assert_release(&rt, (197, 3), &[], &parts, absent);
     // The future table is in slot 1, with 128 buckets from page 2 on. Port 197 has bucket 69 there,
     // at 314 + 64 * 2 + 69, and is in node 5 with owner 3.
     let future = [
@@ -297,7 +285,7 @@ fn releases_of_ports_that_the_first_table_has_not(rt: HostRuntime) {
         Op::add(8, 1),
     ];
     let parts: [&[Op]; 4] = [&way(), &on_to_133(), &on_to_the_end(), &of_197];
-    assert_release(&rt, (Port::plain(197), 3), &future, &parts, (KICK, Some(5)));
+    assert_release(&rt, (197, 3), &future, &parts, (KICK, Some(5)));
 }
 
 /// The taking out of node 1 with port 69, which is alone in the bucket at this place.
@@ -315,7 +303,7 @@ fn out_of(place: usize) -> [Op; 6] {
 #[test]
 fn releases_in_nested_tables(rt: HostRuntime) {
     let parts: [&[Op]; 2] = [&way_behind(), &out_of(511)];
-    assert_release(&rt, (Port::plain(69), 1), &BEHIND, &parts, (KICK, Some(1)));
+    assert_release(&rt, (69, 1), &BEHIND, &parts, (KICK, Some(1)));
     // The entry leads to page 3, whose word 69 / 2 is the bucket's. It has the marker 1081.
     let there = [NESTED, (315, 4), (540, 4), (286, 1_081)];
     let bucket = [
@@ -324,7 +312,7 @@ fn releases_in_nested_tables(rt: HostRuntime) {
         Op::load(287),
     ];
     let parts: [&[Op]; 3] = [&way_to_entry(), &bucket, &out_of(540)];
-    assert_release(&rt, (Port::plain(69), 1), &there, &parts, (KICK, Some(1)));
+    assert_release(&rt, (69, 1), &there, &parts, (KICK, Some(1)));
     // 8192 buckets behind the entries of page 1. The second one leads to page 2, whose entry 34 leads to
     // page 3, whose first word is the bucket's. It has the marker 1013.
     let deep = [(24, 1_069), (379, 3), (476, 4), (506, 4), (286, 1_013)];
@@ -341,7 +329,7 @@ fn releases_in_nested_tables(rt: HostRuntime) {
         Op::load(287),
     ];
     let parts: [&[Op]; 2] = [&way, &out_of(506)];
-    assert_release(&rt, (Port::plain(69), 1), &deep, &parts, (KICK, Some(1)));
+    assert_release(&rt, (69, 1), &deep, &parts, (KICK, Some(1)));
 }
 
 /// The loads of three owners, of which each but the last has a node behind it.
@@ -368,7 +356,7 @@ fn releases_of_a_port_with_three_owners(rt: HostRuntime) {
         Op::add(8, 1),
     ];
     let parts: [&[Op]; 3] = [&way(), &on_to_5(), &first];
-    assert_release(&rt, (Port::plain(5), 9), &[], &parts, (NO_KICK, Some(0)));
+    assert_release(&rt, (5, 9), &[], &parts, (NO_KICK, Some(0)));
     // Node 0 is the bucket's first: the link to the second owner's node goes into the word.
     let front = [
         Op::add(8, 1),
@@ -386,13 +374,7 @@ fn releases_of_a_port_with_three_owners(rt: HostRuntime) {
         Op::add(8, 1),
     ];
     let parts: [&[Op]; 1] = [&front];
-    assert_release(
-        &rt,
-        (Port::plain(5), 9),
-        &[(319, 2)],
-        &parts,
-        (NO_KICK, Some(0)),
-    );
+    assert_release(&rt, (5, 9), &[(319, 2)], &parts, (NO_KICK, Some(0)));
     let second = [
         Op::load(284),
         Op::load(285),
@@ -403,13 +385,13 @@ fn releases_of_a_port_with_three_owners(rt: HostRuntime) {
         Op::add(8, 1),
     ];
     let parts: [&[Op]; 3] = [&way(), &on_to_5(), &second];
-    assert_release(&rt, (Port::plain(5), 7), &[], &parts, (NO_KICK, Some(2)));
+    assert_release(&rt, (5, 7), &[], &parts, (NO_KICK, Some(2)));
     let last = [Op::store(293, 0), Op::store(319, 4), Op::add(8, 1)];
     let parts: [&[Op]; 4] = [&way(), &on_to_5(), &three_owners(), &last];
-    assert_release(&rt, (Port::plain(5), 8), &[], &parts, (NO_KICK, Some(3)));
+    assert_release(&rt, (5, 8), &[], &parts, (NO_KICK, Some(3)));
     let unlock = [Op::store(319, 4), Op::add(8, 1)];
     let parts: [&[Op]; 4] = [&way(), &on_to_5(), &three_owners(), &unlock];
-    assert_release(&rt, (Port::plain(5), 6), &[], &parts, (Reply::Absent, None));
+    assert_release(&rt, (5, 6), &[], &parts, (Reply::Absent, None));
 }
 
 /// The making of node 5 with this port and owner 11.
@@ -426,13 +408,13 @@ fn new_node(port: u64) -> [Op; 5] {
 /// A rebind of the port from the owner to owner 11 makes these steps.
 fn assert_rebind(
     rt: &impl Abort,
-    of: (Port, u32),
+    of: (u64, u32),
     changes: &[(usize, u64)],
     parts: &[&[Op]],
     end: (Reply, Option<u32>),
 ) {
     assert!(rt; CONFIG.is_settled());
-    let machine = Rebind::<Low>::new(Env::new(CONFIG), 0, of.0, of.1, 11);
+    let machine = Rebind::<Low>::new(Env::new(CONFIG), 0, port_of(of.0), of.1, 11);
     assert_steps(rt, machine, changes, parts, end);
 }
 
@@ -446,13 +428,7 @@ fn rebinds_that_are_made(rt: HostRuntime) {
         Op::add(8, 1),
     ];
     let parts: [&[Op]; 3] = [&new_node(69), &way(), &front];
-    assert_rebind(
-        &rt,
-        (Port::plain(69), 1),
-        &[],
-        &parts,
-        (Reply::Rebound, Some(1)),
-    );
+    assert_rebind(&rt, (69, 1), &[], &parts, (Reply::Rebound, Some(1)));
     let later = [
         Op::load(300),
         Op::load(298),
@@ -462,13 +438,7 @@ fn rebinds_that_are_made(rt: HostRuntime) {
         Op::add(8, 1),
     ];
     let parts: [&[Op]; 4] = [&new_node(133), &way(), &on_to_133(), &later];
-    assert_rebind(
-        &rt,
-        (Port::plain(133), 2),
-        &[],
-        &parts,
-        (Reply::Rebound, Some(4)),
-    );
+    assert_rebind(&rt, (133, 2), &[], &parts, (Reply::Rebound, Some(4)));
     let behind = [
         Op::load(288),
         Op::load(286),
@@ -477,13 +447,7 @@ fn rebinds_that_are_made(rt: HostRuntime) {
         Op::add(8, 1),
     ];
     let parts: [&[Op]; 3] = [&new_node(69), &way_behind(), &behind];
-    assert_rebind(
-        &rt,
-        (Port::plain(69), 1),
-        &BEHIND,
-        &parts,
-        (Reply::Rebound, Some(1)),
-    );
+    assert_rebind(&rt, (69, 1), &BEHIND, &parts, (Reply::Rebound, Some(1)));
 }
 
 #[test]
@@ -496,7 +460,7 @@ fn rebinds_that_are_not_made(rt: HostRuntime) {
         Op::or(280, 32),
     ];
     let parts: [&[Op]; 3] = [&new_node(69), &way(), &other];
-    assert_rebind(&rt, (Port::plain(69), 3), &[], &parts, absent);
+    assert_rebind(&rt, (69, 3), &[], &parts, absent);
     let given = [Op::add(8, 1), Op::or(280, 32)];
     let parts: [&[Op]; 5] = [
         &new_node(197),
@@ -505,32 +469,26 @@ fn rebinds_that_are_not_made(rt: HostRuntime) {
         &on_to_the_end(),
         &given,
     ];
-    assert_rebind(&rt, (Port::plain(197), 3), &[], &parts, absent);
+    assert_rebind(&rt, (197, 3), &[], &parts, absent);
     let parts: [&[Op]; 3] = [&new_node(197), &way_to_entry(), &given];
-    assert_rebind(&rt, (Port::plain(197), 3), &[NESTED], &parts, absent);
+    assert_rebind(&rt, (197, 3), &[NESTED], &parts, absent);
     // No node is free, so that no read section is opened.
     let none = [Op::load(280)];
     let parts: [&[Op]; 1] = [&none];
-    assert_rebind(
-        &rt,
-        (Port::plain(69), 1),
-        &[(280, 0)],
-        &parts,
-        (Reply::NoNode, None),
-    );
+    assert_rebind(&rt, (69, 1), &[(280, 0)], &parts, (Reply::NoNode, None));
 }
 
 /// A listing of the port makes these steps, and the owners are these.
 fn assert_all(
     rt: &impl Abort,
     room: Room<u32>,
-    port: Port,
+    port: u64,
     changes: &[(usize, u64)],
     parts: &[&[Op]],
     owners: &[u32],
 ) -> Room<u32> {
     assert!(rt; CONFIG.is_settled());
-    let machine = All::<Low>::new(Env::new(CONFIG), 0, port, room);
+    let machine = All::<Low>::new(Env::new(CONFIG), 0, port_of(port), room);
     assert!(rt; owners.len() < 9);
     let len = owners.len() as u32;
     let machine = assert_steps(rt, machine, changes, parts, (Reply::Listed { len }, None));
@@ -544,10 +502,10 @@ fn listings_keep_the_owners(rt: HostRuntime) -> Result<(), Fail> {
     let room = Room::with_limit(rt.alloc(), 8)?;
     let unlock = [Op::store(319, 4), Op::add(8, 1)];
     let parts: [&[Op]; 4] = [&way(), &on_to_5(), &three_owners(), &unlock];
-    let room = assert_all(&rt, room, Port::plain(5), &[], &parts, &[9, 7, 8]);
+    let room = assert_all(&rt, room, 5, &[], &parts, &[9, 7, 8]);
     // A room for two is full before the third.
     let two = Room::with_limit(rt.alloc(), 2)?;
-    assert_all(&rt, two, Port::plain(5), &[], &parts, &[9, 7]);
+    assert_all(&rt, two, 5, &[], &parts, &[9, 7]);
     // What was in the room goes.
     let one = [
         Op::load(300),
@@ -556,11 +514,11 @@ fn listings_keep_the_owners(rt: HostRuntime) -> Result<(), Fail> {
         Op::add(8, 1),
     ];
     let parts: [&[Op]; 3] = [&way(), &on_to_133(), &one];
-    let room = assert_all(&rt, room, Port::plain(133), &[], &parts, &[2]);
+    let room = assert_all(&rt, room, 133, &[], &parts, &[2]);
     let parts: [&[Op]; 4] = [&way(), &on_to_133(), &on_to_the_end(), &turn()];
-    let room = assert_all(&rt, room, Port::plain(197), &[], &parts, &[]);
+    let room = assert_all(&rt, room, 197, &[], &parts, &[]);
     let parts: [&[Op]; 2] = [&way_to_entry(), &turn()];
-    let room = assert_all(&rt, room, Port::plain(5), &[NESTED], &parts, &[]);
+    let room = assert_all(&rt, room, 5, &[NESTED], &parts, &[]);
     let one = [
         Op::load(288),
         Op::load(289),
@@ -568,6 +526,6 @@ fn listings_keep_the_owners(rt: HostRuntime) -> Result<(), Fail> {
         Op::add(8, 1),
     ];
     let parts: [&[Op]; 2] = [&way_behind(), &one];
-    assert_all(&rt, room, Port::plain(69), &BEHIND, &parts, &[1]);
+    assert_all(&rt, room, 69, &BEHIND, &parts, &[1]);
     Ok(())
 }

@@ -4,7 +4,7 @@
 use super::{begun, node_0_filled, node_given, small};
 use crate::asserts::{assert_same, said_behind};
 use rht_model::Reply;
-use rht_words::{Kind, Next, Op, Port};
+use rht_words::{Kind, Next, Op};
 use std::process::Abort;
 
 /// From the shape of the table in slot 0, whose future is this word, to the entry, which leads to no
@@ -54,7 +54,7 @@ fn assert_enters(
     reply: Reply,
 ) {
     for kind in [Kind::Single, Kind::Listed] {
-        let mut bind = begun(rt, small(kind, 0), Port::plain(5), false);
+        let mut bind = begun(rt, small(kind, 0), 5, false);
         let mut next = said_behind(rt, &mut bind, Next::Go, &node_0_filled(), reply);
         next = said_behind(rt, &mut bind, next, &page_missing(future), reply);
         next = said_behind(rt, &mut bind, next, taken, reply);
@@ -129,7 +129,7 @@ fn assert_enters_two(
         (Op::load(26), 0),
         (Op::load(315), 0), // 314 + 1
     ];
-    let mut bind = begun(rt, small(Kind::Single, 0), Port::plain(903), false);
+    let mut bind = begun(rt, small(Kind::Single, 0), 903, false);
     let mut next = said_behind(rt, &mut bind, Next::Go, &filling, reply);
     next = said_behind(rt, &mut bind, next, &missing, reply);
     next = said_behind(rt, &mut bind, next, first, reply);
