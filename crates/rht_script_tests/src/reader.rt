@@ -141,7 +141,12 @@ fn reads_scripts(rt: HostRuntime) -> Result<(), Fail> {
         (
             "table single workers 1\n1 find 0\n",
             plain,
-            &[(1, Call::Find { port: Port::plain(0) })],
+            &[(
+                1,
+                Call::Find {
+                    port: Port::plain(0),
+                },
+            )],
         ),
         (
             "table single workers 2\n2 find 0\n1 count\n2 work\n1 tidy\n2 walk\n",
@@ -150,7 +155,12 @@ fn reads_scripts(rt: HostRuntime) -> Result<(), Fail> {
                 ..plain
             },
             &[
-                (2, Call::Find { port: Port::plain(0) }),
+                (
+                    2,
+                    Call::Find {
+                        port: Port::plain(0),
+                    },
+                ),
                 (1, Call::Count),
                 (2, Call::Work),
                 (1, Call::Tidy),
@@ -172,7 +182,12 @@ fn reads_scripts(rt: HostRuntime) -> Result<(), Fail> {
                 ..plain
             },
             &[
-                (16, Call::Find { port: Port::plain(0) }),
+                (
+                    16,
+                    Call::Find {
+                        port: Port::plain(0),
+                    },
+                ),
                 (
                     1,
                     Call::Walk {
@@ -242,7 +257,12 @@ fn reads_scripts(rt: HostRuntime) -> Result<(), Fail> {
                         once: false,
                     },
                 ),
-                (1, Call::Find { port: Port::plain(80) }),
+                (
+                    1,
+                    Call::Find {
+                        port: Port::plain(80),
+                    },
+                ),
                 (
                     1,
                     Call::Release {
@@ -256,7 +276,12 @@ fn reads_scripts(rt: HostRuntime) -> Result<(), Fail> {
             "table single\n1 all 80\n1 rebind 80 100 4294967295\n1 count\n",
             plain,
             &[
-                (1, Call::All { port: Port::plain(80) }),
+                (
+                    1,
+                    Call::All {
+                        port: Port::plain(80),
+                    },
+                ),
                 (
                     1,
                     Call::Rebind {
@@ -272,8 +297,18 @@ fn reads_scripts(rt: HostRuntime) -> Result<(), Fail> {
             "table single\r\n\r\n\t1 find\t0 \r\n# b\n00000000000000000001 find 00000000004294967295\n\n",
             plain,
             &[
-                (1, Call::Find { port: Port::plain(0) }),
-                (1, Call::Find { port: Port::plain(4294967295) }),
+                (
+                    1,
+                    Call::Find {
+                        port: Port::plain(0),
+                    },
+                ),
+                (
+                    1,
+                    Call::Find {
+                        port: Port::plain(4294967295),
+                    },
+                ),
             ],
         ),
     ];

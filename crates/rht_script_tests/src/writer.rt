@@ -71,7 +71,11 @@ fn each_reply_has_its_text(rt: HostRuntime) -> Result<(), Fail> {
             true,
             "walk 0=10 7.5=15 end",
         ),
-        (Reply::Walked { len: 2, next }, false, "walk 0=10 7.5=15 more"),
+        (
+            Reply::Walked { len: 2, next },
+            false,
+            "walk 0=10 7.5=15 more",
+        ),
         (Reply::Moved { again: true }, false, "moved again"),
         (Reply::Moved { again: false }, true, "moved"),
         (Reply::Idle, false, "idle"),
