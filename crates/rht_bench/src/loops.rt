@@ -18,7 +18,8 @@ use std::sync::Wait;
 /// The owner to which each port is bound.
 const OWNER: u32 = 7;
 
-/// This bit makes another number of a port's number, in the same bucket where the hash is the port itself.
+/// This bit makes the number of another port of a port's number, in the same bucket where the hash is the
+/// number itself.
 const OTHER: u32 = 1 << 20;
 
 /// A thread has no more ports than these, which is as many as a table can have nodes.

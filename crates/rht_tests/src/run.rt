@@ -117,8 +117,8 @@ fn makes_each_call(rt: HostRuntime) -> Result<(), Fail> {
 /// The port of net 3 with the number 5.
 const NET_3_PORT_5: Port = Port { net: 3, number: 5 };
 
-/// Binds two ports with one number, each to an owner, looks both up and walks the table, and takes the
-/// first one out.
+/// Binds two ports with one number, each to an owner, looks both up, and walks the table. The owner of the
+/// first one can't release the second.
 fn two_nets<M: Mix, R: Wait>(rt: &R, table: &Table<M>, pass: &mut Pass<M>) -> [Reply; 7]
     requires pass { IsPassOf M.mix_of table.now pass.old }
     requires idle { is_idle pass.old.local ≡ true }
