@@ -4,7 +4,8 @@
 #
 # A row has a bar for each program that the table has figures of. `calls` has the figures of one thread,
 # with an axis of its own for each kind of work, since a bind takes many times what a look-up does.
-# `threads` has the figure of one thread by that of four.
+# `threads` has the figure of one thread by that of four, where a row has both. Rows in which the clock is
+# read around each call aren't drawn.
 
 BEGIN {
   programs = split("rht;C, with the same clamps;bare C", program, ";")
@@ -36,6 +37,7 @@ END {
 function take_row(    cell, i) {
   split($0, cell, / *\| */)
   gsub(/`/, "", cell[2])
+  if (cell[2] ~ /^timed_/) return
   if (cell[3] == 1) row[++rows] = cell[2]
   for (i = 1; i <= programs; i++) nanos[cell[2], cell[3], i] = cell[4 + i]
 }
@@ -53,6 +55,7 @@ function draw_calls(    i, j, first) {
 }
 
 function draw_threads(    i, j) {
+  while (rows && !((row[rows], 4, 1) in nanos)) rows--
   draw_head("How many times as many calls four threads do as one, by the best of all runs: more is better")
   for (i = 1; i <= rows; i++)
     for (j = 1; j <= programs; j++)
@@ -64,6 +67,7 @@ function draw_threads(    i, j) {
 function kind_of(name) {
   if (name ~ /^(hits|apart|common|misses|mixed)_/) return "Look-ups, and mixed calls"
   if (name ~ /^(churn|binds)_/) return "Binds, and binds with releases"
+  if (name ~ /^(resting|resizing)_/) return "Look-ups in a table at rest, and beside a resizing"
   sub(/_of_.*/, "", name)
   return name == "growth" ? "Binds in a table that grows" : name
 }

@@ -4,12 +4,13 @@
 #   form=plan    prints the script of `seed`, `number`, `table` and `kind`. `part` says how far its schedule goes: `before` to where
 #                worker 1 and the tidier have done what comes before, `call` to the end of worker 1's call, `stop` to the very end.
 #                `before` and `tidied` are the operations that those two have made by then, and `stop` those of the call
-#   form=points  prints behind which of `many` operations worker 1 stops
+#   form=points  prints behind which of `many` operations worker 1 stops: of `most` by chance, where that is given
 #   form=judge   reads a script and its replay; worker 1 makes `stop` operations in all
 #
 # A judgement is one line: `right`, the events, the replies, how many callers wait for the stopped one, how many of these by way of
-# another, works answered `elsewhere`, tidyings answered `pending`, and whether the stopped call's change has been made: 1 or 0, or - where
-# nothing tells. Otherwise it is `wrong:`, the line of the replay and why, and the status is 1.
+# another, works answered `elsewhere`, tidyings answered `pending`, whether the stopped call's change has been made: 1 or 0, or - where
+# nothing tells, and how many slots were given back behind the stop. Otherwise it is `wrong:`, the line of the replay and why, and the
+# status is 1.
 
 BEGIN {
   looker = 2
@@ -18,6 +19,9 @@ BEGIN {
   late_looker = 12
   reader = 13
   tidier = 14
+  # these two are of the table `current` alone
+  filler = 15
+  changer = 16
   if (form == "plan") plan()
   if (form == "points") points()
   if (form != "judge") exit
@@ -26,13 +30,18 @@ BEGIN {
 # of so many operations those behind which worker 1 stops
 function points(    i) {
   begin_chance(seed, number)
-  for (i = 1; i <= many; i++) if (many <= 60 || i <= 30 || i > many - 10 || below(many - 40) < 20) print i
+  if (most) for (i = 1; i <= many && most > 0; i++) {
+    if (below(many - i + 1) < most) {
+      print i
+      most--
+    }
+  } else for (i = 1; i <= many; i++) if (many <= 60 || i <= 30 || i > many - 10 || below(many - 40) < 20) print i
 }
 
 # ---- A script with a stopped caller -------------------------------------------------------------
 
 function plan() {
-  begin_chance(seed, 64 * number + 16 * index("fmnl", substr(table, 1, 1)) + index("bfraswktc", kind_letter()))
+  begin_chance(seed, 96 * number + 16 * index("fmnlc", substr(table, 1, 1)) + index("bfraswktc", kind_letter()))
   plan_table()
   plan_ports()
   plan_call()
@@ -42,30 +51,36 @@ function plan() {
 function kind_letter() { return kind == "rebind" ? "s" : kind == "walk" ? "w" : kind == "work" ? "k" : substr(kind, 1, 1) }
 
 function plan_table(    line) {
-  size = table == "nested" ? 256 : table == "moved" ? 4 : 8
-  line = "table " (table == "lists" ? "listed" : "single") " nodes " (table == "nested" ? 40 : 24)
-  line = line " pages " (table == "nested" ? 7 : 6) " hint " 3 * size / 4
-  print line " workers 14 rewalks " below(3) " hash low work manual" (below(2) ? " shrink on" : "")
+  large = table == "nested" || table == "current"
+  size = large ? 256 : table == "moved" ? 4 : 8
+  line = "table " (table == "lists" ? "listed" : "single") " nodes " (large ? 40 : 24)
+  line = line " pages " (table == "current" ? 10 : large ? 7 : 6) " hint " 3 * size / 4
+  print line " workers " (table == "current" ? changer : tidier) " rewalks " below(3) " hash low work manual" (below(2) ? " shrink on" : "")
 }
 
 # Most ports lie in one bucket, of which a further table is made where that is full or the table is, and some in the next one.
 function plan_ports(    i, base) {
   base = below(size - 1)
-  many = table == "nested" ? 18 + below(2) : table == "moved" ? 6 + below(2) : 5 + below(3)
-  crowd = table == "nested" ? 17 : 3 + below(2)
+  many = large ? 18 + below(2) : table == "moved" ? 6 + below(2) : 5 + below(3)
+  crowd = large ? 17 : 3 + below(2)
+  if (table == "current") crowd++
+  if (table == "current") many++
   for (i = 0; i < many; i++) {
     port_at[i] = i < crowd ? base + size * i : base + 1 + size * (i - crowd)
     owners_of[port_at[i]] = 10 + i
-    print setter, "bind", port_at[i], 10 + i
+    print binder_of(i), "bind", port_at[i], 10 + i
   }
+  if (table == "current") print changer, "work"
   if (table == "lists") for (i = 0; i < 4; i++) {
     owners_of[port_at[i % 3]] = 30 + i " " owners_of[port_at[i % 3]]
     print setter, "bind", port_at[i % 3], 30 + i
   }
-  # one that the tidier releases, one that worker 1 binds and releases before, and free ones
+  # one that the tidier releases, one that worker 1 binds and releases before, and free ones; behind a nested table that is the current one
+  # the bucket of most ports is full, so there they are in another one behind the same entry
+  beside_it = table == "current" ? 4 : 0
   gone = base + size * 20
-  mine = base + size * 21
-  free = base + size * 22
+  mine = base + beside_it + size * 21
+  free = base + beside_it + size * 22
   free_behind = base + 1 + size * 22
   print setter, "bind", gone, 9
   print 1, "bind", mine, 9
@@ -74,6 +89,9 @@ function plan_ports(    i, base) {
   print tidier, "tidy"
   print reader, "find", gone
 }
+# Where a nested table is to be the current one, 16 ports of one bucket come first. The changer's bind is about to attach a flat table when
+# the setter's has to make a nested one, since no row of pages is left. So the changer gives its row back, and takes it for its work.
+function binder_of(i) { return table != "current" || i == crowd - 1 ? setter : i == crowd - 2 ? changer : filler }
 function bound_port() { return port_at[below(many)] }
 function owner_of(port,    list) { return split(owners_of[port], list, " ") ? list[1 + below(length_of(list))] : 99 }
 function length_of(list,    i, many) {
@@ -127,9 +145,14 @@ function look(worker,    i) {
 }
 
 function plan_schedule(    worker, light, heavy, begun) {
-  light = table == "nested" ? 400 : 160
-  heavy = table == "nested" ? 3000 : 900
-  print "step", setter, 9000
+  light = large ? 400 : 160
+  heavy = large ? 3000 : 900
+  if (table == "current") {
+    steps_of(filler, 9000)
+    steps_of(changer, 56)
+  }
+  steps_of(setter, 9000)
+  if (table == "current") steps_of(changer, 9000)
   steps_of(1, part == "before" ? light : before)
   steps_of(reader, 3)
   steps_of(tidier, part == "before" ? light : tidied)
@@ -167,7 +190,7 @@ END {
   if (!stopped) fault("worker 1 doesn't come so far")
   for (worker = 2; worker <= workers; worker++) left_at(worker)
   print "right", events_seen, replies, waiting + 0, behind + 0, elsewhere + 0, pending + 0, \
-    !differ ? "-" : alive[1] && !alive[0] ? 1 : alive[0] && !alive[1] ? 0 : "-"
+    !differ ? "-" : alive[1] && !alive[0] ? 1 : alive[0] && !alive[1] ? 0 : "-", slots_given - given_before
   exit 0
 }
 
@@ -190,6 +213,7 @@ function noticed(w, what, place) {
 function stop_now(    key, pair, asked, was) {
   stopping = 0
   stopped = 1
+  given_before = slots_given
   for (key in plain) {
     split(key, pair, SUBSEP)
     plain[1, pair[2]] = plain[key]

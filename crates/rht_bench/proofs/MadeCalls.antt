@@ -9,12 +9,12 @@ use Rattle.rht_model.specs.declared.history.Reply.{Reply}
 use Rattle.rht_model.specs.declared.history.Reply.TheVariants as replies
 use Rattle.rht_model.specs.declared.finished.Finished.{Finished}
 use Rattle.rht_core.specs.Locals.{is_idle}
-use Rattle.rht_core.specs.Replies.{IsWorkReply}
+use Rattle.rht_core.specs.Replies.{IsBindReply, IsReleaseReply, IsWorkReply, IsTidyReply}
 use Rattle.rht_run.specs.declared.table.Table.{Table}
 use Rattle.rht_run.specs.declared.pass.Pass.{Pass}
 use Rattle.rht_run.specs.Passes.{IsPassOf, HasCalled, book_of}
 use Rattle.rht_bench.specs.declared.rows.Asked.TheVariants.{Own}
-use Rattle.rht_bench.specs.Right.{is_bound, is_done, IsOfLookups}
+use Rattle.rht_bench.specs.Right.{is_bound, is_done, is_moved, IsOfLookups}
 use Rattle.rht_bench.specs.Made.{HasMade, HasMadeSome, right_among}
 
 -- 1 for a right reply
@@ -29,6 +29,11 @@ right_among-append is_right xs ys = sum_by-append (λ (f : Finished). cond (is_r
 one_if-bool_byte : (right : Bool) → one_if right ≡ bool_byte right
 one_if-bool_byte true = refl
 one_if-bool_byte false = refl
+
+-- and it is no more than 1
+pub bool_byte-few : (right : Bool) → bool_byte right ≤ 1
+bool_byte-few true = omega arith
+bool_byte-few false = omega arith
 
 one_if-few : (right : Bool) → one_if right ≤ 1
 one_if-few true = omega arith
@@ -133,12 +138,37 @@ module _ {M : Type 0} (mix : ℕ → ℕ → ℕ → ℕ) (t : Table M) (is_righ
       subst (λ (n : ℕ). HasMadeSome mix t is_right (least + 1) n before now) none
       (HasMadeSome-call least right call reply before between now some called)
 
+  -- A call with a wrong reply takes nothing from what was made before it.
+  pub HasMadeSome-beside : (least right : ℕ) (call : Call) (reply : Reply) (before between now : Pass M)
+      → HasMadeSome mix t is_right least right before between → HasCalled mix t call reply between now
+      → is_right reply ≡ false → HasMadeSome mix t is_right least right before now
+  HasMadeSome-beside least right call reply before between now some called wrong =
+      HasMadeSome-fewer (least + 1) least right before now
+      (HasMadeSome-wrong least right call reply before between now some called wrong) (omega arith)
+
   pub HasMadeSome-right : (least right : ℕ) (call : Call) (reply : Reply) (before between now : Pass M)
       → HasMadeSome mix t is_right least right before between → HasCalled mix t call reply between now
       → is_right reply ≡ true → HasMadeSome mix t is_right (least + 1) (right + 1) before now
   HasMadeSome-right least right call reply before between now some called good =
       subst (λ (n : ℕ). HasMadeSome mix t is_right (least + 1) n before now) (ap (λ (b : Bool). right + one_if b) good)
       (HasMadeSome-call least right call reply before between now some called)
+
+  -- One call more, by a test that is known to have this answer of its reply.
+  pub HasMadeSome-by : (least right : ℕ) (answer : Bool) (count : ℕ) (call : Call) (reply : Reply) (before between now : Pass M)
+      → HasMadeSome mix t is_right least right before between → HasCalled mix t call reply between now
+      → is_right reply ≡ answer → count ≡ bool_byte answer → HasMadeSome mix t is_right least (right + count) before now
+  HasMadeSome-by least right answer count call reply before between now some called is counted =
+      let one = HasCalled-HasMade-by answer count call reply between now called is counted in
+      HasMadeSome-fewer (least + 1) least (right + count) before now
+      (HasMadeSome-HasMadeSome least right 1 count before between now some
+      (HasMade-HasMadeSome 1 1 count between now one (omega arith))) (omega arith)
+
+  -- Calls behind others, of which none had a right reply.
+  pub HasMadeSome-wrongs : (right : ℕ) (before between now : Pass M) → HasMadeSome mix t is_right 0 right before between
+      → HasMadeSome mix t is_right 0 0 between now → HasMadeSome mix t is_right 0 right before now
+  HasMadeSome-wrongs right before between now first second =
+      subst (λ (n : ℕ). HasMadeSome mix t is_right 0 n before now) (add-zero right)
+      (HasMadeSome-HasMadeSome 0 right 0 0 before between now first second)
 
 -- Of a look-up's replies those that are done are those that found the port.
 pub IsOfLookups-is_done : IsOfLookups Own is_done
@@ -168,3 +198,16 @@ IsWorkReply-is_bound (replies.Moved again) is = refl
 IsWorkReply-is_bound replies.Idle is = refl
 IsWorkReply-is_bound (replies.Clear returned) is = refl
 IsWorkReply-is_bound (replies.Counted count) is = refl
+
+-- No reply of a bind, of a release or of a tidying says that another table was made the current one.
+pub IsBindReply-is_moved : (once : Bool) (reply : Reply) → IsBindReply once reply → is_moved reply ≡ false
+IsBindReply-is_moved once (replies.Moved again) is = absurd is
+IsBindReply-is_moved once _ is = refl
+
+pub IsReleaseReply-is_moved : (reply : Reply) → IsReleaseReply reply → is_moved reply ≡ false
+IsReleaseReply-is_moved (replies.Moved again) is = absurd is
+IsReleaseReply-is_moved _ is = refl
+
+pub IsTidyReply-is_moved : (reply : Reply) → IsTidyReply reply → is_moved reply ≡ false
+IsTidyReply-is_moved (replies.Moved again) is = absurd is
+IsTidyReply-is_moved _ is = refl

@@ -1,12 +1,12 @@
 -- Which replies are right: the ones that the calls of a row must have.
 use Rattle.std.specs.Prelude.{◌≡◌, ℕ, Bool, true, false, None, nat_eq}
 use Rattle.rht_model.specs.declared.history.Reply.{Reply}
-use Rattle.rht_model.specs.declared.history.Reply.TheVariants.{Found, Missing, Bound, Released, Walked}
+use Rattle.rht_model.specs.declared.history.Reply.TheVariants.{Found, Missing, Bound, Released, Walked, Moved}
 use Rattle.rht_model.specs.Replies.{IsFindReply}
 use Rattle.rht_bench.specs.declared.rows.Asked.{Asked}
 use Rattle.rht_bench.specs.declared.rows.Asked.TheVariants.{Own, Others}
 use Rattle.rht_bench.specs.declared.rows.Workload.{Workload}
-use Rattle.rht_bench.specs.declared.rows.Workload.TheVariants.{Hits, Apart, Common, Misses, Mixed, Churn, Binds, Growth, Walks, Between}
+use Rattle.rht_bench.specs.declared.rows.Workload.TheVariants.{Hits, Apart, Common, Misses, Mixed, Churn, Binds, Growth, Walks, Between, Resting, Resizing, TimedResting, TimedResizing}
 
 -- the owner to which each port is bound
 abbrev pub owner_of_all : ℕ
@@ -23,6 +23,11 @@ is_missing _ = false
 abbrev pub is_bound : Reply → Bool
 is_bound (Bound kick) = true
 is_bound _ = false
+
+-- another table was made the current one, or the move stopped before a nested one
+abbrev pub is_moved : Reply → Bool
+is_moved (Moved again) = true
+is_moved _ = false
 
 -- found, bound or released, or walked to the table's end, as the call asked for
 abbrev pub is_done : Reply → Bool
@@ -53,6 +58,10 @@ right_in Binds = is_bound
 right_in Growth = is_bound
 right_in Walks = is_done
 right_in Between = is_done
+right_in Resting = is_found
+right_in Resizing = is_found
+right_in TimedResting = is_found
+right_in TimedResizing = is_found
 
 -- how many calls a thread with so many ports makes in a round at least
 abbrev pub least_in : Workload → ℕ → ℕ
@@ -66,3 +75,7 @@ least_in Binds count = count
 least_in Growth count = count
 least_in Walks count = 1
 least_in Between count = 1
+least_in Resting count = count
+least_in Resizing count = count
+least_in TimedResting count = count
+least_in TimedResizing count = count

@@ -8,15 +8,18 @@ ghost use Rattle.rht_run.specs.Passes.{IsPassOf};
 ghost use Rattle.rht_bench.specs.Right.{is_found, is_missing, is_bound, is_done, right_in, least_in, is_answer, IsOfLookups};
 ghost use Rattle.rht_bench.specs.Made.{HasMade, HasMadeSome};
 
+use crate::clock::Span;
 use crate::rows::{Asked, Workload};
 use rht_model::Reply;
 use rht_policy::Mix;
 use rht_run::{Pass, Table};
 use rht_words::Port;
+use std::rt::Clock;
 use std::sync::Wait;
+use std::time::Instant;
 
 /// The owner to which each port is bound.
-const OWNER: u32 = 7;
+pub const OWNER: u32 = 7;
 
 /// This bit makes the number of another port of a port's number, in the same bucket where the hash is the
 /// number itself.
@@ -38,7 +41,7 @@ pub struct Ports {
 impl Ports {
     /// The number of the port that stands so far behind the first one.
     #[inline(always)]
-    fn at(self, index: u32) -> u32
+    pub fn at(self, index: u32) -> u32
         ensures { self.first + index < 2 ^ 32 → result ≡ self.first + index }
     {
         self.first.wrapping_add(index)
@@ -56,14 +59,16 @@ impl Ports {
     }
 }
 
-/// Goes so many times through the ports.
-pub fn rounds<M: Mix, R: Wait>(
+/// Goes so many times through the ports. `longest` becomes the longest look-up in nanoseconds, where the
+/// look-ups are timed and one of them was longer.
+pub fn rounds<M: Mix, R: Wait + Clock>(
     rt: &R,
     table: &Table<M>,
     pass: &mut Pass<M>,
     workload: Workload,
     ports: Ports,
     times: u32,
+    longest: &mut u64,
 ) -> u64
     requires pass { IsPassOf M.mix_of table.now pass.old }
     requires idle { is_idle pass.old.local ≡ true }
@@ -71,18 +76,19 @@ pub fn rounds<M: Mix, R: Wait>(
 {
     let mut right = 0u64;
     for _round in 0..times {
-        right += round(rt, table, pass, workload, ports);
+        right += round(rt, table, pass, workload, ports, longest);
     }
     right
 }
 
 /// Goes once through the ports.
-fn round<M: Mix, R: Wait>(
+fn round<M: Mix, R: Wait + Clock>(
     rt: &R,
     table: &Table<M>,
     pass: &mut Pass<M>,
     workload: Workload,
     ports: Ports,
+    longest: &mut u64,
 ) -> u64
     requires pass { IsPassOf M.mix_of table.now pass.old }
     requires idle { is_idle pass.old.local ≡ true }
@@ -90,9 +96,11 @@ fn round<M: Mix, R: Wait>(
     ensures few { result ≤ 2 * ports.count + 1 }
 {
     match workload {
-        Workload::Hits | Workload::Apart | Workload::Common => {
-            lookups(table, pass, ports, Asked::Own)
-        }
+        Workload::Hits
+        | Workload::Apart
+        | Workload::Common
+        | Workload::Resting
+        | Workload::Resizing => lookups(table, pass, ports, Asked::Own),
         Workload::Misses => lookups(table, pass, ports, Asked::Others),
         Workload::Mixed => mixed(rt, table, pass, ports),
         Workload::Churn => churn(rt, table, pass, ports),
@@ -100,6 +108,9 @@ fn round<M: Mix, R: Wait>(
         Workload::Growth => growth(rt, table, pass, ports),
         Workload::Walks => walked(table, pass),
         Workload::Between => between(rt, table, pass, ports),
+        Workload::TimedResting | Workload::TimedResizing => {
+            timed(rt, table, pass, ports, longest)
+        }
     }
 }
 
@@ -122,6 +133,36 @@ fn lookups<M: Mix>(table: &Table<M>, pass: &mut Pass<M>, ports: Ports, asked: As
         right += u64::from(is_answer(asked, reply));
     }
     right
+}
+
+/// Looks up the ports, and reads the clock before each look-up and behind it.
+fn timed<M: Mix, R: Clock>(
+    rt: &R,
+    table: &Table<M>,
+    pass: &mut Pass<M>,
+    ports: Ports,
+    longest: &mut u64,
+) -> u64
+    requires pass { IsPassOf M.mix_of table.now pass.old }
+    requires idle { is_idle pass.old.local ≡ true }
+    ensures made { HasMade M.mix_of table.now is_found ports.count result pass.old pass.new }
+{
+    let mut right = 0u64;
+    for index in 0..ports.count {
+        let one = ports.part(index, 1);
+        let began = Instant::now(rt).ok();
+        right += lookups(table, pass, one, Asked::Own);
+        *longest = (*longest).max(nanos_since(rt, began));
+    }
+    right
+}
+
+/// How many nanoseconds went by since then. 0 where the clock can't be read; of such a row nothing is told.
+fn nanos_since<R: Clock>(rt: &R, began: Option<Instant>) -> u64 {
+    match Span::since(rt, began) {
+        Some(span) => span.nanos(),
+        None => 0,
+    }
 }
 
 /// Of twenty calls, binds another port and releases it in two, and looks up bound ports in the rest;

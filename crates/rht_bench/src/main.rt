@@ -2,16 +2,19 @@
 //!
 //! Stands on `rht_run`, and uses only its public calls. Standard output has how many calls had the
 //! reply that they must have, which no schedule of the threads changes; standard error has the
-//! nanoseconds a call. Its words are the scale, the name of a row and a number of threads; without them
+//! nanoseconds a call, and behind them how often the table was resized beside the calls and the longest
+//! look-up. Its words are the scale, the name of a row and a number of threads; without them
 //! it measures little, or all rows. `tools/dev bench` runs it beside `bench/floor.c`, which does the
 //! same in C and has the same words and rows.
 //! Read `src/rows.rt` first, which says what a row is, and then `src/loops.rt`, which has what is
 //! timed.
 #![tactic(auto)]
 
+mod clock;
 mod gate;
 mod loops;
 mod measure;
+mod resizing;
 mod rows;
 
 use measure::measure;
@@ -80,7 +83,7 @@ fn print_workload<R: Threads + Wait + Sync + Clock + Print + Eprint>(
 ) -> io::Result<()> {
     for ports in [scale.few, scale.many] {
         let name = format!(in alloc; "{}_of_{ports}", workload.name())?;
-        for threads in [1, 2, 4] {
+        for threads in workload.threads() {
             if wanted.has(name.as_str(), threads) {
                 print_row(
                     rt,
@@ -109,8 +112,10 @@ fn print_row<R: Threads + Wait + Sync + Clock + Print + Eprint>(
     println!(rt; "{name} {threads} {}", measured.calls)?;
     let hundredths = measured.hundredths_a_call();
     eprintln!(rt;
-        "{name} {threads} {}.{:02}",
+        "{name} {threads} {}.{:02} {} {}",
         hundredths / 100,
-        hundredths % 100
+        hundredths % 100,
+        measured.moved,
+        measured.longest
     )
 }

@@ -1,14 +1,17 @@
 //! How a row is measured: a table is opened, each thread has ports of its own, and reads the clock when
-//! all threads have come to a gate, and when it has done its calls.
+//! all threads have come to a gate, and when it has done its calls. Beside them one thread more may resize
+//! the table.
 
-ghost use Rattle.std.specs.Prelude.{◌≡◌, ◌*◌, true, All, IfOk, vec_len};
+ghost use Rattle.std.specs.Prelude.{◌≡◌, ◌*◌, true, All, IfOk, IfSome, vec_len};
 ghost use Rattle.rht_core.specs.Locals.{is_idle};
 ghost use Rattle.rht_run.specs.Passes.{IsPassOf, AreNew};
 ghost use Rattle.rht_bench.specs.Made.{IsReady};
-ghost use Rattle.rht_bench.specs.Jobs.{IsReadyJob, HasWorked, AllHaveWorked};
+ghost use Rattle.rht_bench.specs.Jobs.{IsReadyJob, HasWorked, HasResized, AllHaveWorked};
 
+use crate::clock::Span;
 use crate::gate::Gate;
 use crate::loops::{MOST, Ports, binds, rounds};
+use crate::resizing::resize;
 use crate::rows::{Row, Workload};
 use rht_policy::Mix;
 use rht_run::{Pass, Table};
@@ -16,7 +19,7 @@ use std::alloc::{AllocError, Global};
 use std::rt::Clock;
 use std::sync::Wait;
 use std::thread::Threads;
-use std::time::{Duration, Instant};
+use std::time::Instant;
 use std::{io, thread};
 
 /// What was measured of a row.
@@ -26,9 +29,23 @@ pub struct Measured {
     pub calls: u64,
     /// From the first beginning of a thread to the last end of one, in all tables.
     pub nanos: u64,
+    /// How many works of a thread beside those made another table the current one.
+    pub moved: u64,
+    /// The longest look-up in nanoseconds. 0 where none was timed.
+    pub longest: u64,
 }
 
 impl Measured {
+    /// What was measured in one table, and in another one.
+    fn with(self, other: Measured) -> Measured {
+        Measured {
+            calls: self.calls.saturating_add(other.calls),
+            nanos: self.nanos.saturating_add(other.nanos),
+            moved: self.moved.saturating_add(other.moved),
+            longest: self.longest.max(other.longest),
+        }
+    }
+
     /// Hundredths of a nanosecond a call.
     pub fn hundredths_a_call(self) -> u64 {
         self.nanos.saturating_mul(100) / self.calls.max(1)
@@ -51,32 +68,10 @@ pub struct Worked<M: Mix> {
     pub pass: Pass<M>,
     /// How many calls had the reply that they must have.
     pub right: u64,
+    /// The longest look-up in nanoseconds. 0 where none was timed.
+    pub longest: u64,
     /// From when to when. `None` where the clock can't be read.
     pub span: Option<Span>,
-}
-
-/// From one reading of the clock to another.
-#[derive(Clone, Copy)]
-pub struct Span {
-    /// The first.
-    pub began: Instant,
-    /// The second.
-    pub ended: Instant,
-}
-
-impl Span {
-    /// The least span in which both lie.
-    fn with(self, other: Span) -> Span {
-        Span {
-            began: self.began.min(other.began),
-            ended: self.ended.max(other.ended),
-        }
-    }
-
-    /// How long it is.
-    fn length(self) -> Duration {
-        self.ended.duration_since(self.began)
-    }
 }
 
 /// Measures a row, one table after another.
@@ -85,11 +80,14 @@ pub fn measure<M: Mix + Send + Sync, R: Threads + Wait + Sync + Clock>(
     alloc: Global,
     row: Row,
 ) -> io::Result<Measured> {
-    let mut all = Measured { calls: 0, nanos: 0 };
+    let mut all = Measured {
+        calls: 0,
+        nanos: 0,
+        moved: 0,
+        longest: 0,
+    };
     for _table in 0..row.tables {
-        let once = measure_once::<M, R>(rt, alloc, row)?;
-        all.calls = all.calls.saturating_add(once.calls);
-        all.nanos = all.nanos.saturating_add(once.nanos);
+        all = all.with(measure_once::<M, R>(rt, alloc, row)?);
     }
     Ok(all)
 }
@@ -103,17 +101,41 @@ fn measure_once<M: Mix + Send + Sync, R: Threads + Wait + Sync + Clock>(
     if !row.config.is_settled() {
         return Err(io::Error::from(io::ErrorKind::InvalidInput));
     }
-    let (table, passes) = Table::<M>::open(alloc, row.config)?;
+    let (table, mut passes) = Table::<M>::open(alloc, row.config)?;
+    let beside = resizer(&table, &mut passes, row);
     let jobs = share_out(rt, alloc, &table, passes, row)?;
-    let gate = Gate::new(row.threads);
-    let worked = work_all(rt, &table, &gate, jobs, row.workload, row.rounds)?;
+    let gate = Gate::new(row.config.callers);
+    let (worked, moved) = work_all(rt, &table, &gate, jobs, beside, row)?;
+    if row.workload.is_resized() && moved == 0 {
+        return Err(io::Error::from(io::ErrorKind::InvalidData));
+    }
     match span_of(&worked) {
         Some(span) => Ok(Measured {
             calls: right_of(&worked),
-            nanos: nanos_of(span.length()),
+            nanos: span.nanos(),
+            moved,
+            longest: longest_of(&worked),
         }),
         None => Err(io::Error::from(io::ErrorKind::Unsupported)),
     }
+}
+
+/// What the thread has to do that resizes the table, where the row has one. It has the last pass, and twice
+/// as many ports as are bound: so many that the table grows, wherever its size was.
+fn resizer<M: Mix>(table: &Table<M>, passes: &mut Vec<Pass<M>>, row: Row) -> Option<Job<M>>
+    requires { AreNew M.mix_of table.now 0 passes.old.items }
+    ensures passes { AreNew M.mix_of table.now 0 passes.new.items }
+    ensures ready { IfSome result (IsReadyJob M.mix_of table.now) }
+{
+    if !row.workload.is_resized() {
+        return None;
+    }
+    let pass = passes.pop()?;
+    let ports = Ports {
+        first: row.ports,
+        count: row.ports.saturating_mul(2).min(MOST),
+    };
+    Some(Job { pass, ports })
 }
 
 /// Gives each pass its share of the ports, or all of them, and binds them where they are to be bound. What
@@ -159,26 +181,74 @@ fn prepared<M: Mix, R: Wait>(
     Job { pass, ports }
 }
 
-/// Does the jobs, each in a thread of its own.
+/// Does the jobs, and beside them that of the thread which resizes, where there is one. It answers with what
+/// the jobs have come to how many works have made another table the current one.
 fn work_all<M: Mix + Send + Sync, R: Threads + Wait + Sync + Clock>(
     rt: &R,
     table: &Table<M>,
     gate: &Gate,
     jobs: Vec<Job<M>>,
-    workload: Workload,
-    times: u32,
+    beside: Option<Job<M>>,
+    row: Row,
+) -> Result<(Vec<Worked<M>>, u64), AllocError>
+    requires jobs { All (IsReadyJob M.mix_of table.now) jobs.items }
+    requires beside { IfSome beside (IsReadyJob M.mix_of table.now) }
+    ensures each { IfOk result (λ r. AllHaveWorked M.mix_of table.now row.workload row.rounds jobs.items r.0.items) }
+    ensures beside { IfOk result (λ r. IfSome beside (HasResized M.mix_of table.now r.1)) }
+{
+    let Some(resizer) = beside else {
+        return Ok((work_jobs(rt, table, gate, jobs, row)?, 0));
+    };
+    let (moved, worked) = thread::join(
+        rt,
+        move || -> u64
+            requires { IsReadyJob M.mix_of table.now resizer }
+            ensures { HasResized M.mix_of table.entry.now result resizer }
+        { resize_beside(rt, table, gate, resizer, row.threads) },
+        move || -> Result<Vec<Worked<M>>, AllocError>
+            requires { All (IsReadyJob M.mix_of table.now) jobs.items }
+            ensures { IfOk result (λ worked. AllHaveWorked M.mix_of table.entry.now row.workload row.rounds jobs.items worked.items) }
+        { work_jobs(rt, table, gate, jobs, row) },
+    );
+    Ok((worked?, moved))
+}
+
+/// Resizes the table, once all threads have come, until so many others have done their calls. It answers how
+/// many works have made another table the current one.
+fn resize_beside<M: Mix, R: Wait>(
+    rt: &R,
+    table: &Table<M>,
+    gate: &Gate,
+    job: Job<M>,
+    others: u32,
+) -> u64
+    requires { IsReadyJob M.mix_of table.now job }
+    ensures { HasResized M.mix_of table.now result job }
+{
+    let Job { mut pass, ports } = job;
+    gate.pass();
+    resize(rt, table, &mut pass, ports, gate, others)
+}
+
+/// Does the jobs, each in a thread of its own.
+fn work_jobs<M: Mix + Send + Sync, R: Threads + Wait + Sync + Clock>(
+    rt: &R,
+    table: &Table<M>,
+    gate: &Gate,
+    jobs: Vec<Job<M>>,
+    row: Row,
 ) -> Result<Vec<Worked<M>>, AllocError>
     requires { All (IsReadyJob M.mix_of table.now) jobs.items }
     ensures len { IfOk result (λ worked. vec_len worked ≡ vec_len jobs) }
-    ensures each { IfOk result (λ worked. AllHaveWorked M.mix_of table.now workload times jobs.items worked.items) }
+    ensures each { IfOk result (λ worked. AllHaveWorked M.mix_of table.now row.workload row.rounds jobs.items worked.items) }
 {
     thread::map_vec(
         rt,
         jobs,
         &|job| -> Worked<M>
             requires { IsReadyJob M.mix_of table.now job }
-            ensures { HasWorked M.mix_of table.entry.now workload times job result }
-        { work(rt, table, gate, job, workload, times) },
+            ensures { HasWorked M.mix_of table.entry.now row.workload row.rounds job result }
+        { work(rt, table, gate, job, row) },
     )
 }
 
@@ -188,22 +258,32 @@ fn work<M: Mix, R: Wait + Clock>(
     table: &Table<M>,
     gate: &Gate,
     job: Job<M>,
-    workload: Workload,
-    times: u32,
+    row: Row,
 ) -> Worked<M>
     requires { IsReadyJob M.mix_of table.now job }
-    ensures { HasWorked M.mix_of table.now workload times job result }
+    ensures { HasWorked M.mix_of table.now row.workload row.rounds job result }
 {
     let Job { mut pass, ports } = job;
+    let mut longest = 0u64;
     gate.pass();
     let began = Instant::now(rt).ok();
-    let right = rounds(rt, table, &mut pass, workload, ports, times);
-    let ended = Instant::now(rt).ok();
-    let span = match (began, ended) {
-        (Some(began), Some(ended)) => Some(Span { began, ended }),
-        _ => None,
-    };
-    Worked { pass, right, span }
+    let right = rounds(
+        rt,
+        table,
+        &mut pass,
+        row.workload,
+        ports,
+        row.rounds,
+        &mut longest,
+    );
+    let span = Span::since(rt, began);
+    gate.leave();
+    Worked {
+        pass,
+        right,
+        longest,
+        span,
+    }
 }
 
 /// From the first beginning to the last end. `None` where the clock couldn't be read.
@@ -228,7 +308,11 @@ fn right_of<M: Mix>(worked: &Vec<Worked<M>>) -> u64 {
     right
 }
 
-/// The time in nanoseconds.
-fn nanos_of(time: Duration) -> u64 {
-    u64::try_from(time.as_nanos()).unwrap_or(u64::MAX)
+/// The longest look-up of all threads in nanoseconds. 0 where none was timed.
+fn longest_of<M: Mix>(worked: &Vec<Worked<M>>) -> u64 {
+    let mut longest = 0u64;
+    for one in worked.iter() {
+        longest = longest.max(one.longest);
+    }
+    longest
 }

@@ -26,6 +26,15 @@ pub enum Workload {
     Walks,
     /// As `Walks`, and behind each walk a port is bound and released for each twenty of the thread's own.
     Between,
+    /// As `Hits`, in a table as that of `Resizing`, which nobody resizes.
+    Resting,
+    /// As `Hits`, beside one thread more. That one binds ports of its own and releases them, so that the
+    /// table grows and shrinks for as long as the others look up.
+    Resizing,
+    /// As `Resting`, and the clock is read before each look-up and behind it.
+    TimedResting,
+    /// As `Resizing`, and the clock is read before each look-up and behind it.
+    TimedResizing,
 }
 
 /// Which ports a thread looks up.
@@ -38,7 +47,7 @@ pub enum Asked {
 }
 
 /// All workloads, in the order of the record.
-pub const WORKLOADS: [Workload; 10] = [
+pub const WORKLOADS: [Workload; 14] = [
     Workload::Hits,
     Workload::Apart,
     Workload::Common,
@@ -49,10 +58,14 @@ pub const WORKLOADS: [Workload; 10] = [
     Workload::Growth,
     Workload::Walks,
     Workload::Between,
+    Workload::Resting,
+    Workload::Resizing,
+    Workload::TimedResting,
+    Workload::TimedResizing,
 ];
 
 /// A table that grows begins with room for one of so many ports. From there on its size is doubled
-/// six times, so that it comes to use seven of the eight tables that there can be.
+/// six times.
 const GROWTH: u32 = 42;
 
 impl Workload {
@@ -69,7 +82,36 @@ impl Workload {
             Workload::Growth => "growth",
             Workload::Walks => "walks",
             Workload::Between => "between",
+            Workload::Resting => "resting",
+            Workload::Resizing => "resizing",
+            Workload::TimedResting => "timed_resting",
+            Workload::TimedResizing => "timed_resizing",
         }
+    }
+
+    /// By how many threads its rows are done. Where one more may be at work there are three at most.
+    pub fn threads(self) -> [u32; 3] {
+        if self.may_shrink() {
+            [1, 2, 3]
+        } else {
+            [1, 2, 4]
+        }
+    }
+
+    /// Whether one thread more resizes the table meanwhile.
+    pub fn is_resized(self) -> bool {
+        matches!(self, Workload::Resizing | Workload::TimedResizing)
+    }
+
+    /// Whether the table may shrink, as one has to that is resized for as long as others look up.
+    fn may_shrink(self) -> bool {
+        matches!(
+            self,
+            Workload::Resting
+                | Workload::Resizing
+                | Workload::TimedResting
+                | Workload::TimedResizing
+        )
     }
 
     /// Whether the ports are bound before the clock is started.
@@ -140,8 +182,8 @@ impl Scale {
         }
     }
 
-    /// A row of this scale. No row tidies, so a node that was taken out doesn't come back. So what binds is
-    /// done a few times in one table, and then in another one.
+    /// A row of this scale. No thread that is measured tidies, so a node that it took out doesn't come back.
+    /// So what binds is done a few times in one table, and then in another one.
     pub fn row(self, workload: Workload, ports: u32, threads: u32) -> Row {
         let share = self.many / ports.max(1);
         let (rounds, tables) = match workload {
@@ -149,7 +191,14 @@ impl Scale {
                 self.often(share.saturating_mul(128)),
                 1,
             ),
-            Workload::Apart => (self.often(share.saturating_mul(512)), 1),
+            Workload::Apart | Workload::Resting | Workload::Resizing => (
+                self.often(share.saturating_mul(512)),
+                1,
+            ),
+            Workload::TimedResting | Workload::TimedResizing => (
+                self.often(share.saturating_mul(80)),
+                1,
+            ),
             Workload::Walks => (self.often(share.saturating_mul(64)), 1),
             Workload::Between => (share, self.often(32)),
             Workload::Mixed => (share.saturating_mul(4), self.often(16)),
@@ -181,8 +230,12 @@ impl Scale {
         Config {
             kind: Kind::Single,
             nodes: self.nodes / share,
-            pages: self.pages / share,
-            callers: threads,
+            pages: if workload.may_shrink() {
+                self.pages.saturating_mul(2)
+            } else {
+                self.pages / share
+            },
+            callers: threads.saturating_add(u32::from(workload.is_resized())),
             hint: match workload {
                 Workload::Growth => (ports / GROWTH).max(1),
                 _ => ports,
@@ -195,7 +248,7 @@ impl Scale {
                 Workload::Apart => Hash::Low,
                 _ => Hash::Mix,
             },
-            shrink: false,
+            shrink: workload.may_shrink(),
         }
     }
 }

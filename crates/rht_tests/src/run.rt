@@ -419,3 +419,72 @@ fn a_walk_shows_each_port(rt: HostRuntime) -> Result<(), Fail> {
     assert!(rt; pass.pairs().is_empty());
     Ok(())
 }
+
+/// Binds a fourth port, so that a table of eight buckets follows. The second work gives back the first one.
+fn move_on<M: Mix, R: Wait>(rt: &R, table: &Table<M>, pass: &mut Pass<M>) -> [Reply; 3]
+    requires pass { IsPassOf M.mix_of table.now pass.old }
+    requires idle { is_idle pass.old.local ≡ true }
+    ensures pass { IsPassOf M.mix_of table.now pass.new }
+    ensures idle { is_idle pass.new.local ≡ true }
+{
+    let bound = table.bind(rt, pass, 11, 3);
+    let moved = table.work(rt, pass);
+    let idle = table.work(rt, pass);
+    [bound, moved, idle]
+}
+
+/// Leaves one port, so that a table of four buckets follows. It takes the slot that the first one had.
+fn move_back<M: Mix, R: Wait>(rt: &R, table: &Table<M>, pass: &mut Pass<M>) -> [Reply; 4]
+    requires pass { IsPassOf M.mix_of table.now pass.old }
+    requires idle { is_idle pass.old.local ≡ true }
+    ensures pass { IsPassOf M.mix_of table.now pass.new }
+    ensures idle { is_idle pass.new.local ≡ true }
+{
+    let first = table.release(rt, pass, 11, 3);
+    let second = table.release(rt, pass, 5, 4);
+    let third = table.release(rt, pass, 2, 2);
+    let moved = table.work(rt, pass);
+    [first, second, third, moved]
+}
+
+/// A cursor is of one table. It fits neither where that is gone nor where another one has its slot, though
+/// that has as many buckets: only its serial is another, 2.
+#[test]
+fn a_cursor_fits_no_later_table(rt: HostRuntime) -> Result<(), Fail> {
+    let config = Config {
+        hint: 3,
+        shrink: true,
+        ..SMALL
+    };
+    let (table, mut pass) = opened::<Low>(&rt, rt.alloc(), config)?;
+    bind_three(&rt, &table, &mut pass);
+    let from = Some(Cursor {
+        serial: 0,
+        bucket: 2,
+    });
+    let first = walk(&table, &mut pass, None, 1);
+    assert_same(&rt, first, Reply::Walked { len: 1, next: from });
+    let want = [
+        Reply::Bound { kick: true },
+        Reply::Moved { again: false },
+        Reply::Idle,
+    ];
+    assert_same(&rt, move_on(&rt, &table, &mut pass), want);
+    let gone = walk(&table, &mut pass, from, 1);
+    assert_same(&rt, gone, Reply::Again { table: 1 });
+    let want = [
+        Reply::Released { kick: false },
+        Reply::Released { kick: false },
+        Reply::Released { kick: true },
+        Reply::Moved { again: false },
+    ];
+    assert_same(&rt, move_back(&rt, &table, &mut pass), want);
+    let other = walk(&table, &mut pass, from, 1);
+    assert_same(&rt, other, Reply::Again { table: 0 });
+    assert!(rt; pass.pairs().is_empty());
+    // Port 7 is in the last bucket.
+    let anew = walk(&table, &mut pass, None, 1);
+    assert_same(&rt, anew, Reply::Walked { len: 1, next: None });
+    assert_same(&rt, pass.pairs(), &[(7, 1)]);
+    Ok(())
+}

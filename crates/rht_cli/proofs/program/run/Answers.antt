@@ -22,8 +22,8 @@ returns-in-Some-clause-headline g c zero named =
     let same = one_form c.args.words.now.items c.deref.result.now Run c.in-Some.form
     c.deref.ensures.value (sym c.in-Some.is ∙ c.of.ensures) named in
     Headline-served g.S.Source.left g.S.Source.faults g.O.Sink.held g.O.Sink.faults c.in-Some.form
-        c.args.source.now c.serve.new.source c.args.out.now c.serve.new.out c.serve.result c.serve.ensures.served
-        same (sym (ap status_of c.ending_of.ensures) ∙ sym c.end.ensures.status ∙ zero)
+    c.args.source.now c.serve.new.source c.args.out.now c.serve.new.out c.serve.result c.serve.ensures.served
+    same (sym (ap status_of c.ending_of.ensures) ∙ sym c.end.ensures.status ∙ zero)
 
 pub returns-in-Some-clause-served : goal.returns-in-Some-clause-served
 returns-in-Some-clause-served g c form bytes rest named told input reads writes =
