@@ -22,15 +22,9 @@ use Rattle.rht_script.specs.ScheduleLines.{event_limits}
 
 -- ---- what can be said
 
-<<<<<<< HEAD
--- In scripts of this form there is a verb for the call in a table of this config: a bind that is tried until it ends, a
--- look-up, a listing, a release and a rebind, each of any port of this form and any owners, a walk over the whole table,
--- the work, a tidying, and a reading of the count. A rebind is in a table of one owner each.
-=======
 -- In scripts of this form there is a verb for the call in a table of this config. A bind, a look-up, a listing, a release and
 -- a rebind are of any port of this form and any owners. A bind is tried until it ends, and a rebind is in a table of one
 -- owner each. A walk goes over the whole table. The work, a tidying and a reading of the count have no numbers.
->>>>>>> 3350f8e5dc1925feefadb02c1d26743bdcb770a2
 abbrev pub IsSayableCall : ℕ → Config → Call → Type 0
 IsSayableCall form config (Bind port owner once) =
     IsPortIn form port × IsWithinLimits owner_limits owner × (once ≡ false)
@@ -59,15 +53,9 @@ IsSayableSched config (Skip worker number) =
 IsSayableSched config (Finish worker number) =
     IsWithinLimits (worker_limits config) worker × IsWithinLimits event_limits number
 
-<<<<<<< HEAD
--- today's words can say this: any config that a table can be opened with, whether workers run `work` by themselves, how
--- ports are written, and commands and a schedule that lines can say, one line each, of which there are fewer than a script
--- may have
-=======
 -- Today's words can say this: any config that a table can be opened with, whether workers run `work` by themselves, and how
 -- ports are written. Lines can say the commands and the schedule, one line each, and there are fewer of them than a script
 -- may have.
->>>>>>> 3350f8e5dc1925feefadb02c1d26743bdcb770a2
 pub record IsSayable (said : Said) : Type 0 where
   pub config : IsSettled said.config
   pub form : IsForm said.form

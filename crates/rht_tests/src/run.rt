@@ -427,7 +427,7 @@ fn move_on<M: Mix, R: Wait>(rt: &R, table: &Table<M>, pass: &mut Pass<M>) -> [Re
     ensures pass { IsPassOf M.mix_of table.now pass.new }
     ensures idle { is_idle pass.new.local ≡ true }
 {
-    let bound = table.bind(rt, pass, 11, 3);
+    let bound = table.bind(rt, pass, Port::plain(11), 3);
     let moved = table.work(rt, pass);
     let idle = table.work(rt, pass);
     [bound, moved, idle]
@@ -440,9 +440,9 @@ fn move_back<M: Mix, R: Wait>(rt: &R, table: &Table<M>, pass: &mut Pass<M>) -> [
     ensures pass { IsPassOf M.mix_of table.now pass.new }
     ensures idle { is_idle pass.new.local ≡ true }
 {
-    let first = table.release(rt, pass, 11, 3);
-    let second = table.release(rt, pass, 5, 4);
-    let third = table.release(rt, pass, 2, 2);
+    let first = table.release(rt, pass, Port::plain(11), 3);
+    let second = table.release(rt, pass, Port::plain(5), 4);
+    let third = table.release(rt, pass, Port::plain(2), 2);
     let moved = table.work(rt, pass);
     [first, second, third, moved]
 }
@@ -485,6 +485,6 @@ fn a_cursor_fits_no_later_table(rt: HostRuntime) -> Result<(), Fail> {
     // Port 7 is in the last bucket.
     let anew = walk(&table, &mut pass, None, 1);
     assert_same(&rt, anew, Reply::Walked { len: 1, next: None });
-    assert_same(&rt, pass.pairs(), &[(7, 1)]);
+    assert_pairs(&rt, pass.pairs(), &[(7, 1)]);
     Ok(())
 }

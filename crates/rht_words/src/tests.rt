@@ -1,9 +1,9 @@
 //! Numbers worked out by hand from the layout and the formulas.
 
 use super::{
-    Config, Env, Geometry, Op, Port, Shape, apply, entry_of, future_of, head_of, is_locked, link_of,
-    marker_of, node_of, opening_word, page_of, places, plain_of, port_of, rounded_down, rounded_up,
-    slot_of, starting_size, unlocked, word_of,
+    Config, Env, Geometry, Op, Port, Shape, apply, entry_of, future_of, head_of, is_locked,
+    link_of, marker_of, node_of, opening_word, page_of, places, plain_of, port_of, rounded_down,
+    rounded_up, slot_of, starting_size, unlocked, word_of,
 };
 use std::fmt::Debug;
 use std::process::Abort;
