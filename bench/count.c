@@ -9,7 +9,7 @@
 
 LOOP releases(const struct table *t, struct ports ports) {
   u32 right = 0;
-  for (u32 i = 0; i < ports.count; i++) right += is_done(release(t, ports.caller, ports.first + i, OWNER));
+  for (u32 i = 0; i < ports.count; i++) right += is_done(release(t, ports.caller, plain(ports.first + i), OWNER));
   return right;
 }
 
