@@ -149,8 +149,8 @@ ALWAYS u64 word_of(struct port port) { return (u64)port.net << 32 | port.number;
 
 ALWAYS struct port port_of(u64 word) { return (struct port){(u16)(word >> 32), (u32)word}; }
 
-/* the port of net 0 with this number */
-ALWAYS struct port plain(u32 number) { return (struct port){0, number}; }
+/* The net of all ports here. It is read anew where a loop begins, so no compiler knows that it is 0. */
+static volatile u16 net_of_ports = 0;
 
 ALWAYS u32 rotated(u32 x, u32 by) { return x << by | x >> (32 - by); }
 
@@ -553,15 +553,18 @@ static void open_table(struct table *t, u32 nodes, u32 pages, u32 callers, u32 h
 /* The ports of a loop, and the caller who asks for them. */
 struct ports {
   u32 first, count, caller;
+  u16 net;
   struct pair *pairs;
 };
+
+ALWAYS struct port port_in(struct ports ports, u32 number) { return (struct port){ports.net, number}; }
 
 ALWAYS bool is_done(reply r) { return IS_FOUND(r, OWNER) || IS(r, BOUND) || IS(r, RELEASED); }
 
 ALWAYS u32 hits_in(const struct table *t, bool low, struct ports ports) {
   u32 right = 0;
   for (u32 i = 0; i < ports.count; i++) {
-    struct port port = plain(ports.first + i);
+    struct port port = port_in(ports, ports.first + i);
     reply r = low ? low_find(t, ports.caller, port) : find(t, ports.caller, port);
     right += IS_FOUND(r, OWNER);
   }
@@ -571,7 +574,7 @@ ALWAYS u32 hits_in(const struct table *t, bool low, struct ports ports) {
 ALWAYS u32 binds_in(const struct table *t, bool low, struct ports ports) {
   u32 right = 0;
   for (u32 i = 0; i < ports.count; i++) {
-    struct port port = plain(ports.first + i);
+    struct port port = port_in(ports, ports.first + i);
     right += is_done(low ? low_bind(t, ports.caller, port, OWNER) : bind(t, ports.caller, port, OWNER));
   }
   return right;
@@ -587,7 +590,7 @@ LOOP low_binds(const struct table *t, struct ports ports) { return binds_in(t, t
 LOOP misses(const struct table *t, struct ports ports) {
   u32 right = 0;
   for (u32 i = 0; i < ports.count; i++) {
-    reply r = find(t, ports.caller, plain((ports.first + i) | OTHER));
+    reply r = find(t, ports.caller, port_in(ports, (ports.first + i) | OTHER));
     right += IS(r, MISSING);
   }
   return right;
@@ -595,21 +598,21 @@ LOOP misses(const struct table *t, struct ports ports) {
 
 /* Of twenty calls a bind, a release and eighteen look-ups; the ports that are left are looked up. */
 LOOP mixed(const struct table *t, struct ports ports) {
-  struct port other = plain(ports.first | OTHER);
+  struct port other = port_in(ports, ports.first | OTHER);
   u32 blocks = ports.count / 20;
   u32 right = 0;
   for (u32 i = 0; i < blocks; i++) {
     right += is_done(bind(t, ports.caller, other, OWNER));
     right += is_done(release(t, ports.caller, other, OWNER));
-    right += hits_in(t, false, (struct ports){ports.first + 20 * i + 2, 18, ports.caller, NULL});
+    right += hits_in(t, false, (struct ports){ports.first + 20 * i + 2, 18, ports.caller, ports.net, NULL});
   }
-  return right + hits_in(t, false, (struct ports){ports.first + 20 * blocks, ports.count % 20, ports.caller, NULL});
+  return right + hits_in(t, false, (struct ports){ports.first + 20 * blocks, ports.count % 20, ports.caller, ports.net, NULL});
 }
 
 LOOP churn(const struct table *t, struct ports ports) {
   u32 right = 0;
   for (u32 i = 0; i < ports.count; i++) {
-    struct port other = plain((ports.first + i) | OTHER);
+    struct port other = port_in(ports, (ports.first + i) | OTHER);
     reply bound = bind(t, ports.caller, other, OWNER);
     reply released = release(t, ports.caller, other, OWNER);
     right += is_done(bound);
@@ -727,9 +730,9 @@ static struct measured all_of(const struct job *jobs, u32 threads) {
 
 /* The ports of a thread: its share of them. In `common` each thread has all of them. */
 static struct ports ports_of(struct row row, u32 thread) {
-  if (row.workload == COMMON) return (struct ports){0, row.ports, thread, NULL};
+  if (row.workload == COMMON) return (struct ports){0, row.ports, thread, net_of_ports, NULL};
   u32 count = row.ports / row.threads;
-  return (struct ports){thread * count, count, thread, NULL};
+  return (struct ports){thread * count, count, thread, net_of_ports, NULL};
 }
 
 /* Measures a row in one table. In `common` the binds of the first thread bind all ports, and those of the
