@@ -68,7 +68,7 @@ function cleared_by(mask) {
   return all_tail - substr(mask, 6)
 }
 
-# The key word of a port, as it stands in a node, by the port as it is printed; a key word is its own.
+# The key word of a port, as it stands in a node, by the port as it is printed.
 function key_of(port,    part) {
   return sprintf("%.0f", split(port, part, ".") == 2 ? part[1] * 4294967296 + part[2] : port)
 }
@@ -398,7 +398,7 @@ function read_page(into, page, buckets,    i, w, link, node, visited, port) {
     if (w < 2) continue
     link = w - w % 2
     for (visited = 0; visited < nodes && (node = node_of(link)) != ""; visited++) {
-      port = key_of(word[first_node + 4 * node + 1])
+      port = sprintf("%.0f", word[first_node + 4 * node + 1])
       if (!(port in into)) into[port] = list_from(link)
       link = word[first_node + 4 * node]
     }
