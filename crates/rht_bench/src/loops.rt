@@ -21,8 +21,9 @@ use std::time::Instant;
 /// The owner to which each port is bound.
 pub const OWNER: u32 = 7;
 
-/// This bit makes another port of a port, in the same bucket where the hash is the port itself.
-const OTHER: Port = 1 << 20;
+/// This bit makes the number of another port of a port's number, in the same bucket where the hash is the
+/// number itself.
+const OTHER: u32 = 1 << 20;
 
 /// A thread has no more ports than these, which is as many as a table can have nodes.
 pub const MOST: u32 = 65_536;
@@ -30,17 +31,17 @@ pub const MOST: u32 = 65_536;
 /// The ports of a thread. No other thread releases one of them, or binds or releases their others.
 #[derive(Clone, Copy)]
 pub struct Ports {
-    /// The first one.
-    pub first: Port,
+    /// The number of the first one.
+    pub first: u32,
     /// How many there are, side by side.
     pub count: u32,
     pub ghost few: { count ≤ 65536 },
 }
 
 impl Ports {
-    /// The port that stands so far behind the first one.
+    /// The number of the port that stands so far behind the first one.
     #[inline(always)]
-    pub fn at(self, index: u32) -> Port
+    pub fn at(self, index: u32) -> u32
         ensures { self.first + index < 2 ^ 32 → result ≡ self.first + index }
     {
         self.first.wrapping_add(index)
@@ -128,7 +129,7 @@ fn lookups<M: Mix>(table: &Table<M>, pass: &mut Pass<M>, ports: Ports, asked: As
     };
     let mut right = 0u64;
     for index in 0..ports.count {
-        let reply = table.find(pass, ports.at(index) | other);
+        let reply = table.find(pass, Port::plain(ports.at(index) | other));
         right += u64::from(is_answer(asked, reply));
     }
     right
@@ -193,7 +194,7 @@ fn twenty<M: Mix, R: Wait>(
     requires block { block * 20 + 20 ≤ ports.count }
     ensures made { HasMade M.mix_of table.now is_done 20 result pass.old pass.new }
 {
-    let other = ports.first | OTHER;
+    let other = Port::plain(ports.first | OTHER);
     let bound = table.bind(rt, pass, other, OWNER);
     let released = table.release(rt, pass, other, OWNER);
     let found = lookups(table, pass, ports.part(block * 20 + 2, 18), Asked::Own);
@@ -208,7 +209,7 @@ fn churn<M: Mix, R: Wait>(rt: &R, table: &Table<M>, pass: &mut Pass<M>, ports: P
 {
     let mut right = 0u64;
     for index in 0..ports.count {
-        let other = ports.at(index) | OTHER;
+        let other = Port::plain(ports.at(index) | OTHER);
         let bound = table.bind(rt, pass, other, OWNER);
         let released = table.release(rt, pass, other, OWNER);
         right += u64::from(is_done(bound)) + u64::from(is_done(released));
@@ -224,7 +225,7 @@ pub fn binds<M: Mix, R: Wait>(rt: &R, table: &Table<M>, pass: &mut Pass<M>, port
 {
     let mut right = 0u64;
     for index in 0..ports.count {
-        let reply = table.bind(rt, pass, ports.at(index), OWNER);
+        let reply = table.bind(rt, pass, Port::plain(ports.at(index)), OWNER);
         right += u64::from(is_bound(reply));
     }
     right
@@ -239,7 +240,7 @@ fn growth<M: Mix, R: Wait>(rt: &R, table: &Table<M>, pass: &mut Pass<M>, ports: 
     ensures few { result ≡ ports.count }
 {
     for index in 0..ports.count {
-        bind_and_grow(rt, table, pass, ports.at(index));
+        bind_and_grow(rt, table, pass, Port::plain(ports.at(index)));
     }
     u64::from(ports.count)
 }

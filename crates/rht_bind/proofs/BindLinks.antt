@@ -8,7 +8,7 @@ use Rattle.rht_words.specs.declared.op.Op.TheVariants.{Store}
 use Rattle.rht_words.specs.declared.config.Kind.{Kind}
 use Rattle.rht_words.specs.declared.config.Kind.TheVariants.{Single, Listed}
 use Rattle.rht_words.specs.Links.{link_of, head_of, plain_of}
-use Rattle.rht_words.specs.Ports.{owner_of}
+use Rattle.rht_words.specs.Ports.{IsPort, owner_of}
 use Rattle.rht_words.specs.Operations.{applied}
 use Rattle.rht_words.specs.Places.{Node, ChainLink, OwnerWord, PageWord, words_in}
 use Rattle.rht_words.proofs.Memory.{Memory, IsWrite, is_write}
@@ -102,7 +102,7 @@ module _ (env : Env) (mix : ℕ → ℕ → ℕ → ℕ) (c : ℕ) (port owner :
       (armed port owner claimed) words G all whole tt (own port owner claimed.attempt.node) ChainLink
       (head_of claimed.bucket.place claimed.bucket.word) known.knowing)
 
-  module _ (small_port : port < 2 ^ 32) (small : owner < 2 ^ 32) (low : c < env.geometry.callers) where
+  module _ (small_port : IsPort port) (small : owner < 2 ^ 32) (low : c < env.geometry.callers) where
     -- the count is raised
     pub raising : (claimed : Claimed)
         → let here = at.Raise claimed in

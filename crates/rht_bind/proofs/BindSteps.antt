@@ -4,6 +4,7 @@ use Rattle.rht_words.specs.declared.env.Env.{Env}
 use Rattle.rht_words.specs.Links.{slot_of}
 use Rattle.rht_words.specs.Places.{Slot, FutureWord, words_in}
 use Rattle.rht_words.proofs.Memory.{Memory}
+use Rattle.rht_words.specs.Ports.{IsPort}
 use Rattle.rht_arena.specs.GiveNode.{give_node_plan}
 use Rattle.rht_chain.specs.declared.locked.Then.TheVariants.{Table, Answer}
 use Rattle.rht_model.specs.declared.history.Call.{Call}
@@ -35,7 +36,7 @@ use Rattle.rht_bind.proofs.BindGrowths.{want_next, refused_next, making_step, at
 use Rattle.rht_bind.proofs.BindKnowledge as binds
 
 module _ (env : Env) (mix : ℕ → ℕ → ℕ → ℕ) (c : ℕ) (port owner : ℕ) (once : Bool)
-    (small_port : port < 2 ^ 32) (small : owner < 2 ^ 32) (low : c < env.geometry.callers)
+    (small_port : IsPort port) (small : owner < 2 ^ 32) (low : c < env.geometry.callers)
     (words : List ℕ) (G : Ghost) (all : length words ≡ words_in env.geometry)
     (whole : Whole env mix (mem env mix words) G) where
   abbrev call : Call

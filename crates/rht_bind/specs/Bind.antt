@@ -12,7 +12,7 @@ use Rattle.rht_words.specs.declared.config.Kind.TheVariants as kinds
 use Rattle.rht_words.specs.declared.geometry.Geometry.{Geometry}
 use Rattle.rht_words.specs.Links.{table_of, slot_of, future_of, link_of, head_of}
 use Rattle.rht_words.specs.Planned.{IsWord}
-use Rattle.rht_words.specs.Ports.{word_of, owner_of}
+use Rattle.rht_words.specs.Ports.{IsPort, word_of, owner_of}
 use Rattle.rht_words.specs.Shapes.{size_of, unpacked}
 use Rattle.rht_words.specs.Places.{CurrentTable, PortCount, Slot, FutureWord, Node, ChainLink, OwnerWord, ListLink, place_of}
 use Rattle.rht_policy.specs.Thresholds.{is_above_75, is_above_100, is_above_max}
@@ -362,6 +362,6 @@ IsBindAtIn env (at.Giving give reply) = IsGiveIn env.geometry give
 pub record IsBindIn (env : Env) (caller : ℕ) (m : BindModel) : Type 0 where
   pub same_env : m.env ≡ env
   pub same_caller : m.caller ≡ caller
-  pub port_in : m.port < 2 ^ 32
+  pub port_in : IsPort m.port
   pub owner_in : m.owner < 2 ^ 32
   pub at_in : IsBindAtIn env m.at

@@ -16,9 +16,10 @@ use Rattle.rht_script.specs.Spelling.{is_word, lines_of, is_skipped}
 use Rattle.rht_script.specs.TableLines.{table_of}
 use Rattle.rht_script.specs.CommandLines.{end_of, command_of}
 use Rattle.rht_script.specs.Grammar.{most_bytes, most_lines, at_line, words_at, coded}
+use Rattle.rht_script.specs.PortWords.{IsForm}
 use Rattle.rht_script.specs.Sound.{is_sound_command}
 use Rattle.rht_script.proofs.ReadLines.{IfOk-then, IfOk-after, IfOk-cond, IfOk-at_line, words_few}
-use Rattle.rht_script.proofs.SayableScripts.{IsSettledTable, HasOneNumber, table_settled, table_form, command_sound}
+use Rattle.rht_script.proofs.SayableScripts.{IsSettledTable, HasForm, table_settled, table_form, command_sound}
 use Rattle.rht_check.specs.declared.claim.Claim.{Claim}
 use Rattle.rht_check.specs.declared.reader.AskedLine.{AskedLine}
 use Rattle.rht_check.specs.declared.reader.AskedLine.TheVariants.{Command, History}
@@ -29,7 +30,7 @@ use Rattle.rht_check.proofs.LinesRead.{coded_at-coded}
 
 -- ---- the table line
 
-both_hold : (read : Result TableLine Cause) → IfOk read IsSettledTable → IfOk read HasOneNumber → IfOk read IsSoundTable
+both_hold : (read : Result TableLine Cause) → IfOk read IsSettledTable → IfOk read HasForm → IfOk read IsSoundTable
 both_hold (Ok table) settled form = record { settled = settled; form = form }
 both_hold (Err cause) settled form = tt
 
@@ -47,7 +48,7 @@ coded_table_sound line words =
 module _ (table : TableLine) where
   -- a line asks for a sound command, or ends the commands
   abbrev IsSoundLine : AskedLine → Type 0
-  IsSoundLine (Command command) = is_sound_command table.config command ≡ true
+  IsSoundLine (Command command) = is_sound_command table.form table.config command ≡ true
   IsSoundLine History = Unit {0}
 
   line_sound : (words : List (List ℕ)) → IfOk (asked_of table words) IsSoundLine
@@ -56,13 +57,13 @@ module _ (table : TableLine) where
   line_sound (word ∷ words) =
       IfOk-cond IsSoundLine (is_word word (codes "history")) _ _
       (IfOk-after IsSoundLine (end_of words) _ (λ end. tt))
-      (IfOk-then (λ command. is_sound_command table.config command ≡ true) IsSoundLine (command_of table (word ∷ words)) about_bindings
+      (IfOk-then (λ command. is_sound_command table.form table.config command ≡ true) IsSoundLine (command_of table (word ∷ words)) about_bindings
       (command_sound table (word ∷ words))
       (λ command sound. IfOk-cond IsSoundLine (is_some (port_of command.1)) (Ok (Command command)) (Err UnknownWord) sound tt))
 
   -- The commands from this number on are sound, and fewer than the lines up to the claims.
   record AreAsked (number : ℕ) (asked : Asked) : Type 0 where
-    each : AllByRecursion (λ command. is_sound_command table.config command ≡ true) asked.commands
+    each : AllByRecursion (λ command. is_sound_command table.form table.config command ≡ true) asked.commands
     few : length asked.commands + number < asked.behind.number
     last : asked.behind.number ≤ 1000001
 
@@ -122,7 +123,8 @@ module _ (table : TableLine) where
 -- What is said can be judged.
 record IsJudgeable (said : SaidClaim) : Type 0 where
   settled : IsSettled said.script.config
-  commands : AllByRecursion (λ command. is_sound_command said.script.config command ≡ true) said.script.commands
+  form : IsForm said.script.form
+  commands : AllByRecursion (λ command. is_sound_command said.script.form said.script.config command ≡ true) said.script.commands
   schedule : said.script.schedule ≡ []
   few : length said.script.commands ≤ most_lines
   claims : length said.claims ≤ most_lines
@@ -134,6 +136,7 @@ with_hold table number lines sound =
     IfOk-then (AreFew table asked.behind.number) IsJudgeable (told_from asked.behind.number table asked.behind.lines) _
     (told_hold table asked.behind.number asked.behind.lines are.last) (λ told few. record {
       settled = sound.settled;
+      form = sound.form;
       commands = are.each;
       schedule = refl;
       few = (let more = are.few in let last = are.last in omega arith);
@@ -158,10 +161,11 @@ IsSoundClaim-read bytes claim read =
     record {
       script = record {
         settled = are.settled;
+        form = are.form;
         few = (let few = are.few in omega (arith, claim.script.commands.ok.0));
         commands =
-            list_all-from_AllPass (is_sound_command claim.script.config) claim.script.commands.items
-            (All-from_recursion (λ command. is_sound_command claim.script.config command ≡ true) claim.script.commands.items are.commands);
+            list_all-from_AllPass (is_sound_command claim.script.form claim.script.config) claim.script.commands.items
+            (All-from_recursion (λ command. is_sound_command claim.script.form claim.script.config command ≡ true) claim.script.commands.items are.commands);
         schedule = rw are.schedule refl;
       };
       few = (let few = are.claims in omega (arith, claim.claims.ok.0));

@@ -11,7 +11,7 @@ use Rattle.rht_script.specs.declared.script.ScriptFault.{ScriptFault}
 use Rattle.rht_script.specs.declared.cause.Cause.{Cause}
 use Rattle.rht_script.specs.declared.cause.Cause.TheVariants.{UnknownWord}
 use Rattle.rht_script.specs.Spelling.{◌>>=◌, between, is_word, number_of}
-use Rattle.rht_script.specs.TableLines.{one_number}
+use Rattle.rht_script.specs.PortWords.{IsForm}
 use Rattle.rht_script.specs.CommandLines.{owner_limits, worker_limits, number_first, end_of, command_of}
 use Rattle.rht_check.specs.declared.reader.AskedLine.{AskedLine}
 use Rattle.rht_check.specs.declared.reader.AskedLine.TheVariants.{Command, History}
@@ -117,10 +117,10 @@ told_of table (word ∷ words) = worker_of table word >>= (λ worker. reply_of w
 
 -- ---- what the calls that read a line ask and answer
 
--- A table line whose config a table can be opened with, and that has ports as numbers.
+-- A table line whose config a table can be opened with, and that has a form which there is.
 pub record IsSoundTable (table : TableLine) : Type 0 where
   pub settled : IsSettled table.config
-  pub form : table.form ≡ one_number
+  pub form : IsForm table.form
 
 -- what is read at this line, where causes are told by their numbers
 abbrev pub coded_at : {X : Type 0} → ℕ → Result X ℕ → Result X ScriptFault

@@ -60,7 +60,7 @@ pub record SaidClaim : Type 0 where
 
 -- a script without a schedule
 abbrev pub asking : TableLine → List (ℕ × Call) → Said
-asking table commands = record { config = table.config; auto = table.auto; commands = commands; schedule = [] }
+asking table commands = record { config = table.config; auto = table.auto; form = table.form; commands = commands; schedule = [] }
 
 -- what is said with this table line by the lines below it
 abbrev pub claimed_with : TableLine → ℕ → List (List ℕ) → Result SaidClaim ScriptFault

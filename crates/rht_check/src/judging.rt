@@ -13,7 +13,7 @@ use crate::claim::{Claim, Verdict};
 use crate::commands_left::CommandsLeft;
 use crate::port_map::PortMap;
 use rht_model::{Call, Owners, Reply};
-use rht_words::Kind;
+use rht_words::{Kind, Port};
 use std::alloc::{AllocError, Global};
 
 /// Judges a claimed history. The first claim that isn't right decides: its worker has no command
@@ -102,7 +102,7 @@ fn is_plain(told: &(u32, Reply, Owners), reply: Reply) -> bool
 }
 
 /// Whether the claim lists the owners of the port.
-fn is_list(told: &(u32, Reply, Owners), port: u32, bindings: &PortMap) -> bool
+fn is_list(told: &(u32, Reply, Owners), port: Port, bindings: &PortMap) -> bool
     ensures { IsTrue result ↔ (
         (without_kick told.now.1 ≡ Reply.Listed (length (owners_at bindings.now port))) × (told.now.2 ≡ owners_at bindings.now port)) }
 {

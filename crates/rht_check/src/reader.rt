@@ -81,6 +81,7 @@ pub fn read_claim(alloc: Global, bytes: &[u8]) -> Result<Claim, ReadError>
         script: Script {
             config: table.config,
             auto: table.auto,
+            form: table.form,
             commands,
             schedule: Vec::new(alloc),
         },

@@ -10,6 +10,7 @@ use Rattle.rht_words.specs.Places.{EnrolledCallers, place_of, words_in}
 use Rattle.rht_words.specs.Opening.{opening_words}
 use Rattle.rht_words.specs.declared.config.Kind.{Kind}
 use Rattle.rht_words.specs.declared.config.Kind.TheVariants.{Listed}
+use Rattle.rht_words.specs.Ports.{IsPort}
 use Rattle.rht_model.specs.declared.history.Call.{Call}
 use Rattle.rht_model.specs.declared.history.Call.TheVariants.{Bind, Find, All, Release, Rebind, Walk}
 use Rattle.rht_model.specs.declared.history.Reply.{Reply}
@@ -156,11 +157,11 @@ pub record World (M : Type 0) : Type 0 where
 
 -- each number lies in the range of its type
 abbrev pub IsAdmittedCall : Call → Type 0
-IsAdmittedCall (Bind port owner once) = (port < 2 ^ 32) × (owner < 2 ^ 32)
-IsAdmittedCall (Find port) = port < 2 ^ 32
-IsAdmittedCall (All port) = port < 2 ^ 32
-IsAdmittedCall (Release port owner) = (port < 2 ^ 32) × (owner < 2 ^ 32)
-IsAdmittedCall (Rebind port owner new) = (port < 2 ^ 32) × (owner < 2 ^ 32) × (new < 2 ^ 32)
+IsAdmittedCall (Bind port owner once) = IsPort port × (owner < 2 ^ 32)
+IsAdmittedCall (Find port) = IsPort port
+IsAdmittedCall (All port) = IsPort port
+IsAdmittedCall (Release port owner) = IsPort port × (owner < 2 ^ 32)
+IsAdmittedCall (Rebind port owner new) = IsPort port × (owner < 2 ^ 32) × (new < 2 ^ 32)
 IsAdmittedCall (Walk None limit) = limit < 2 ^ 32
 IsAdmittedCall (Walk (Some cursor) limit) = (cursor.serial < 2 ^ 64) × (cursor.bucket < 2 ^ 32) × (limit < 2 ^ 32)
 IsAdmittedCall _ = Unit {0}

@@ -3,6 +3,7 @@
 //! 282 + 4 * n on, and the pages from 314 on. With the low hash port 5 has bucket 5 of 64, which is
 //! at 314 + 5 = 319, and the marker of that place is 2 * 319 + 1 = 639.
 
+mod asked;
 mod batches;
 mod binds;
 mod closing;
@@ -12,14 +13,13 @@ mod resizing;
 mod returning;
 mod tidying;
 
-ghost use Rattle.std.specs.Prelude.{◌≡◌, ◌<◌, true, length, IfSome};
-ghost use Rattle.rht_words.specs.declared.config.Kind.{Kind};
-ghost use Rattle.rht_core.specs.Runs.{IsBuiltEvent};
+ghost use Rattle.std.specs.Prelude.{◌≡◌, ◌<◌, length, IfSome};
 
+use asked::{Asked, Told};
 use rht_core::{Event, State, Stepped, owners_of};
-use rht_model::{Call, Reply};
+use rht_model::Reply;
 use rht_policy::Mix;
-use rht_words::{Config, Geometry, Hash, Kind, Op, Port};
+use rht_words::{Config, Geometry, Hash, Op, port_of};
 use std::alloc::{AllocError, Global};
 use std::fmt::Debug;
 use std::process::Abort;
@@ -34,14 +34,17 @@ const BOUND: Reply = Reply::Bound { kick: false };
 
 const RELEASED: Reply = Reply::Released { kick: false };
 
-const FIND_5: Call = Call::Find { port: 5 };
+const FIND_5: Asked = Asked::Find { port: 5 };
+
+/// The port of net 3 with the number 5. With the low hash it has the bucket of port 5.
+const NET_3_PORT_5: u64 = 3 * (1 << 32) + 5;
 
 /// What a run is told next, and what is wanted of it.
 #[derive(Clone, Copy)]
 enum Row<'a> {
     /// An event without an operation.
     Quiet {
-        event: Event,
+        told: Told,
     },
     /// One more caller, where the word of enrolled callers says this.
     Enrolls {
@@ -51,17 +54,17 @@ enum Row<'a> {
     Steps {
         caller: u32,
         lines: &'a [(Op, u64)],
-        end: Option<(Call, Reply)>,
+        end: Option<(Asked, Reply)>,
     },
     /// The first caller is given a call, which runs to this reply.
     Replies {
-        call: Call,
+        asked: Asked,
         reply: Reply,
     },
     /// The call that a caller is in runs to this reply.
     Finishes {
         caller: u32,
-        call: Call,
+        asked: Asked,
         reply: Reply,
     },
 }
@@ -70,14 +73,14 @@ fn enrolls(old: u64) -> Row<'static> {
     Row::Enrolls { old }
 }
 
-fn begins(caller: u32, call: Call) -> Row<'static> {
-    let event = Event::Begin { caller, call };
-    Row::Quiet { event }
+fn begins(caller: u32, asked: Asked) -> Row<'static> {
+    let told = Told::Begin { caller, asked };
+    Row::Quiet { told }
 }
 
 fn idles(caller: u32) -> Row<'static> {
-    let event = Event::Step { caller };
-    Row::Quiet { event }
+    let told = Told::Step { caller };
+    Row::Quiet { told }
 }
 
 fn steps<'a>(caller: u32, lines: &'a [(Op, u64)]) -> Row<'a> {
@@ -85,33 +88,33 @@ fn steps<'a>(caller: u32, lines: &'a [(Op, u64)]) -> Row<'a> {
     Row::Steps { caller, lines, end }
 }
 
-fn ends<'a>(caller: u32, lines: &'a [(Op, u64)], call: Call, reply: Reply) -> Row<'a> {
-    let end = Some((call, reply));
+fn ends<'a>(caller: u32, lines: &'a [(Op, u64)], asked: Asked, reply: Reply) -> Row<'a> {
+    let end = Some((asked, reply));
     Row::Steps { caller, lines, end }
 }
 
-fn replies(call: Call, reply: Reply) -> Row<'static> {
-    Row::Replies { call, reply }
+fn replies(asked: Asked, reply: Reply) -> Row<'static> {
+    Row::Replies { asked, reply }
 }
 
-fn finishes(caller: u32, call: Call, reply: Reply) -> Row<'static> {
+fn finishes(caller: u32, asked: Asked, reply: Reply) -> Row<'static> {
     Row::Finishes {
         caller,
-        call,
+        asked,
         reply,
     }
 }
 
-fn bind(port: Port, owner: u32) -> Call {
-    Call::Bind {
+fn bind(port: u64, owner: u32) -> Asked {
+    Asked::Bind {
         port,
         owner,
         once: false,
     }
 }
 
-fn release(port: Port, owner: u32) -> Call {
-    Call::Release { port, owner }
+fn release(port: u64, owner: u32) -> Asked {
+    Asked::Release { port, owner }
 }
 
 /// A table of 8 nodes and 4 pages for one caller, with the low hash.
@@ -182,24 +185,11 @@ fn assert_same<T: Copy + Debug + PartialEq>(rt: &impl Abort, found: T, want: T) 
 struct Run<M: Mix> {
     state: State<M>,
     geometry: Geometry,
-    bound: Vec<(Port, u32)>,
-}
-
-/// Whether the event may happen in every table.
-fn is_built(event: Event) -> bool
-    ensures { result ≡ true → (kind : Kind) → IsBuiltEvent kind event }
-{
-    !matches!(
-        event,
-        Event::Begin {
-            call: Call::Rebind { .. },
-            ..
-        }
-    )
+    bound: Vec<(u64, u32)>,
 }
 
 /// The owners of the port among these bindings, in their order.
-fn owners_in(alloc: Global, bound: &[(Port, u32)], port: Port) -> Result<Vec<u32>, AllocError> {
+fn owners_in(alloc: Global, bound: &[(u64, u32)], port: u64) -> Result<Vec<u32>, AllocError> {
     let mut owners = Vec::new(alloc);
     for (at, owner) in bound {
         if *at == port {
@@ -215,11 +205,11 @@ fn assert_owners(
     alloc: Global,
     geometry: Geometry,
     words: &[u64],
-    port: Port,
+    port: u64,
     want: &[u32],
 ) -> Result<(), AllocError> {
     assert_eq!(rt; words.len(), geometry.words());
-    let owners = owners_of(alloc, geometry, words, port)?;
+    let owners = owners_of(alloc, geometry, words, port_of(port))?;
     assert_same(rt, (port, owners.as_slice()), (port, want));
     Ok(())
 }
@@ -227,7 +217,7 @@ fn assert_owners(
 /// The words stand for the owners of these ports, which are those of the binds that were made.
 fn assert_bound<M: Mix>(rt: &impl Abort, alloc: Global, run: &Run<M>) -> Result<(), Fail> {
     let words = run.state.words();
-    for port in [0, 1, 5, 6, 7, 8, 69] {
+    for port in [0, 1, 5, 6, 7, 8, 69, NET_3_PORT_5] {
         let want = owners_in(alloc, run.bound.as_slice(), port)?;
         assert_owners(rt, alloc, run.geometry, words, port, want.as_slice())?;
     }
@@ -235,7 +225,7 @@ fn assert_bound<M: Mix>(rt: &impl Abort, alloc: Global, run: &Run<M>) -> Result<
 }
 
 /// The place of the binding that is to go, if it is there.
-fn place_in(bound: &[(Port, u32)], gone: (Port, u32)) -> Option<usize>
+fn place_in(bound: &[(u64, u32)], gone: (u64, u32)) -> Option<usize>
     ensures { IfSome result (λ at. at < length bound.now) }
 {
     for at in 0..bound.len() {
@@ -247,11 +237,11 @@ fn place_in(bound: &[(Port, u32)], gone: (Port, u32)) -> Option<usize>
 }
 
 /// The call has had this reply. A release takes out the latest binding of its port and owner.
-fn ended<M: Mix>(run: &mut Run<M>, call: Call, reply: Reply) -> Result<(), AllocError> {
-    if let (Call::Bind { port, owner, .. }, Reply::Bound { .. }) = (call, reply) {
+fn ended<M: Mix>(run: &mut Run<M>, asked: Asked, reply: Reply) -> Result<(), AllocError> {
+    if let (Asked::Bind { port, owner, .. }, Reply::Bound { .. }) = (asked, reply) {
         run.bound.insert(0, (port, owner))?;
     }
-    if let (Call::Release { port, owner }, Reply::Released { .. }) = (call, reply) {
+    if let (Asked::Release { port, owner }, Reply::Released { .. }) = (asked, reply) {
         if let Some(at) = place_in(run.bound.as_slice(), (port, owner)) {
             run.bound.remove(at);
         }
@@ -259,17 +249,16 @@ fn ended<M: Mix>(run: &mut Run<M>, call: Call, reply: Reply) -> Result<(), Alloc
     Ok(())
 }
 
-/// The event does this.
-fn assert_event<M: Mix>(rt: &impl Abort, state: &mut State<M>, event: Event, want: Stepped)
+/// What the run is told does this.
+fn assert_told<M: Mix>(rt: &impl Abort, state: &mut State<M>, told: Told, want: Stepped)
     ensures { state.new.env ≡ state.old.env }
 {
-    assert!(rt; is_built(event));
-    let stepped = state.step(event);
-    assert_same(rt, (event, stepped), (event, want));
+    let stepped = state.step(told.event());
+    assert_same(rt, (told, stepped), (told, want));
 }
 
 /// What a call was answered, where its last line is this one.
-fn end_at(end: Option<(Call, Reply)>, is_last: bool) -> Option<(Call, Reply)> {
+fn end_at(end: Option<(Asked, Reply)>, is_last: bool) -> Option<(Asked, Reply)> {
     if is_last { end } else { None }
 }
 
@@ -281,21 +270,21 @@ fn assert_steps<M: Mix>(
     run: &mut Run<M>,
     caller: u32,
     lines: &[(Op, u64)],
-    end: Option<(Call, Reply)>,
+    end: Option<(Asked, Reply)>,
 ) -> Result<(), Fail> {
     let mut left = lines.len();
     for line in lines {
         left = left.saturating_sub(1);
         let last = end_at(end, left == 0);
-        if let Some((call, reply)) = last {
-            ended(run, call, reply)?;
+        if let Some((asked, reply)) = last {
+            ended(run, asked, reply)?;
         }
         assert_bound(rt, alloc, run)?;
         let want = Stepped {
             did: Some(*line),
             reply: last.map(|(_, reply)| reply),
         };
-        assert_event(rt, &mut run.state, Event::Step { caller }, want);
+        assert_told(rt, &mut run.state, Told::Step { caller }, want);
     }
     assert_bound(rt, alloc, run)
 }
@@ -306,14 +295,14 @@ fn assert_reply<M: Mix>(
     alloc: Global,
     run: &mut Run<M>,
     caller: u32,
-    call: Call,
+    asked: Asked,
     reply: Reply,
 ) -> Result<(), Fail> {
     for _ in 0..400 {
         let stepped = run.state.step(Event::Step { caller });
         if let Some(found) = stepped.reply {
-            assert_same(rt, (call, found), (call, reply));
-            ended(run, call, reply)?;
+            assert_same(rt, (asked, found), (asked, reply));
+            ended(run, asked, reply)?;
             return assert_bound(rt, alloc, run);
         }
     }
@@ -339,39 +328,35 @@ fn assert_run<M: Mix>(
     };
     for row in rows {
         match *row {
-            Row::Quiet { event } => assert_event(rt, &mut run.state, event, NOTHING),
+            Row::Quiet { told } => assert_told(rt, &mut run.state, told, NOTHING),
             Row::Enrolls { old } => {
                 let did = Some((Op::add(4, 1), old));
                 let want = Stepped { did, reply: None };
-                assert_event(rt, &mut run.state, Event::Enroll, want);
+                assert_told(rt, &mut run.state, Told::Enroll, want);
             }
             Row::Steps { caller, lines, end } => {
                 assert_steps(rt, alloc, &mut run, caller, lines, end)?;
             }
-            Row::Replies { call, reply } => {
-                assert_event(
-                    rt,
-                    &mut run.state,
-                    Event::Begin { caller: 0, call },
-                    NOTHING,
-                );
-                assert_reply(rt, alloc, &mut run, 0, call, reply)?;
+            Row::Replies { asked, reply } => {
+                let told = Told::Begin { caller: 0, asked };
+                assert_told(rt, &mut run.state, told, NOTHING);
+                assert_reply(rt, alloc, &mut run, 0, asked, reply)?;
             }
             Row::Finishes {
                 caller,
-                call,
+                asked,
                 reply,
-            } => assert_reply(rt, alloc, &mut run, caller, call, reply)?,
+            } => assert_reply(rt, alloc, &mut run, caller, asked, reply)?,
         }
     }
     Ok(())
 }
 
 /// A caller is given a call, without an operation.
-fn begin<M: Mix>(rt: &impl Abort, state: &mut State<M>, caller: u32, call: Call)
+fn begin<M: Mix>(rt: &impl Abort, state: &mut State<M>, caller: u32, asked: Asked)
     ensures { state.new.env ≡ state.old.env }
 {
-    assert_event(rt, state, Event::Begin { caller, call }, NOTHING);
+    assert_told(rt, state, Told::Begin { caller, asked }, NOTHING);
 }
 
 /// Performs a caller's next operation, and answers the reply where that ends its call.
@@ -382,10 +367,15 @@ fn reply_of_step<M: Mix>(state: &mut State<M>, caller: u32) -> Option<Reply>
 }
 
 /// Runs a caller's call to its reply.
-fn reply_to<M: Mix>(rt: &impl Abort, state: &mut State<M>, caller: u32, call: Call) -> Option<Reply>
+fn reply_to<M: Mix>(
+    rt: &impl Abort,
+    state: &mut State<M>,
+    caller: u32,
+    asked: Asked,
+) -> Option<Reply>
     ensures { state.new.env ≡ state.old.env }
 {
-    begin(rt, state, caller, call);
+    begin(rt, state, caller, asked);
     for _ in 0..100 {
         let reply = reply_of_step(state, caller);
         if reply.is_some() {

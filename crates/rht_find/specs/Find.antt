@@ -7,7 +7,7 @@ use Rattle.rht_words.specs.declared.machine.Next.TheVariants.{Go, Done}
 use Rattle.rht_words.specs.declared.env.Env.{Env}
 use Rattle.rht_words.specs.declared.geometry.Geometry.{Geometry}
 use Rattle.rht_words.specs.Links.{table_of, slot_of, node_of, head_of, marker_of}
-use Rattle.rht_words.specs.Ports.{word_of, owner_of}
+use Rattle.rht_words.specs.Ports.{IsPort, word_of, owner_of}
 use Rattle.rht_words.specs.Places.{CurrentTable, Slot, FutureWord, Node, KeyWord, ChainLink, OwnerWord, IsBucketPlace, place_of}
 use Rattle.rht_grace.specs.Sections.{turning}
 use Rattle.rht_nest.specs.Reach.{ReachModel, reach_new, reach_plan, reach_after, IsReachIn}
@@ -157,5 +157,5 @@ IsFindAtIn env (at.Closing reply) = Unit {0}
 pub record IsFindIn (env : Env) (caller : ℕ) (m : FindModel) : Type 0 where
   pub same_env : m.env ≡ env
   pub same_caller : m.caller ≡ caller
-  pub port_in : m.port < 2 ^ 32
+  pub port_in : IsPort m.port
   pub at_in : IsFindAtIn env m.at

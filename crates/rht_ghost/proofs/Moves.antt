@@ -44,5 +44,3 @@ pub mod Entering
 pub mod Withdrawing
 -- and such a table leaves its slot
 pub mod TakingBack
--- what the work has after these moves
-pub mod ReturnHoldings

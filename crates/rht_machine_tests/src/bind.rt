@@ -8,7 +8,7 @@ use crate::asserts::{Machine, assert_parts};
 use rht_bind::Bind;
 use rht_model::Reply;
 use rht_policy::Low;
-use rht_words::{Config, Env, Hash, Kind, Next, Op, Port};
+use rht_words::{Config, Env, Hash, Kind, Next, Op, port_of};
 use std::process::Abort;
 
 /// The operations that take node 0 and fill it, with what each finds. Behind them the section is
@@ -38,9 +38,9 @@ fn small(kind: Kind, max: u32) -> Config {
 }
 
 /// A bind of the port to owner 9 in this table, before its first operation.
-fn begun(rt: &impl Abort, config: Config, port: Port, once: bool) -> Bind<Low> {
+fn begun(rt: &impl Abort, config: Config, port: u64, once: bool) -> Bind<Low> {
     assert!(rt; config.is_settled());
-    Bind::new(Env::new(config), 2, port, 9, once)
+    Bind::new(Env::new(config), 2, port_of(port), 9, once)
 }
 
 impl Machine for Bind<Low> {

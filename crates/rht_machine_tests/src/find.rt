@@ -6,8 +6,11 @@ use crate::asserts::{Machine, assert_performs};
 use rht_find::Find;
 use rht_model::Reply;
 use rht_policy::Low;
-use rht_words::{Config, Env, Hash, Kind, Next, Op};
+use rht_words::{Config, Env, Hash, Kind, Next, Op, port_of};
 use std::process::Abort;
+
+/// The key word of port 5 of net 3.
+const NET_3_PORT_5: u64 = 3 * (1 << 32) + 5;
 
 /// What a look-up performs, with what each operation finds, and its reply.
 type Case<'a> = (&'a [(Op, u64)], Reply);
@@ -26,6 +29,11 @@ impl Machine for Find<Low> {
 
 /// Look-ups of port 5 go so, in a table of so many nodes that walks a bucket anew so often.
 fn assert_looks(rt: &impl Abort, nodes: u32, rewalks: u32, cases: &[Case]) {
+    assert_looks_for(rt, 5, nodes, rewalks, cases);
+}
+
+/// The same of the port with this key word.
+fn assert_looks_for(rt: &impl Abort, port: u64, nodes: u32, rewalks: u32, cases: &[Case]) {
     let config = Config {
         kind: Kind::Single,
         nodes,
@@ -36,7 +44,7 @@ fn assert_looks(rt: &impl Abort, nodes: u32, rewalks: u32, cases: &[Case]) {
     };
     assert!(rt; config.is_settled());
     for (steps, reply) in cases {
-        let find = Find::<Low>::new(Env::new(config), 3, 5);
+        let find = Find::<Low>::new(Env::new(config), 3, port_of(port));
         assert_performs(rt, find, steps, *reply);
     }
 }
@@ -94,6 +102,58 @@ fn a_look_up_goes_through_its_states_without_a_lock(rt: HostRuntime) {
         ),
     ];
     assert_looks(&rt, 8, 0, &cases);
+}
+
+#[test]
+fn a_look_up_tells_nets_apart(rt: HostRuntime) {
+    // Node 1 has port 5 of net 3, and node 0 has port 5. With the low hash both are in bucket 5.
+    let second: Case = (
+        &[
+            (Op::add(11, 1), 0),
+            (Op::load(0), 0),
+            (Op::load(24), 6),
+            (Op::load(25), 1),
+            (Op::load(319), 4),
+            (Op::load(287), NET_3_PORT_5),
+            (Op::load(286), 2),
+            (Op::load(283), 5),
+            (Op::load(284), 9),
+            (Op::add(11, 1), 1),
+        ],
+        Reply::Found { owner: 9 },
+    );
+    assert_looks(&rt, 8, 0, &[second]);
+    let net_3: [Case; 2] = [
+        (
+            &[
+                (Op::add(11, 1), 2),
+                (Op::load(0), 0),
+                (Op::load(24), 6),
+                (Op::load(25), 1),
+                (Op::load(319), 4),
+                (Op::load(287), NET_3_PORT_5),
+                (Op::load(288), 7),
+                (Op::add(11, 1), 3),
+            ],
+            Reply::Found { owner: 7 },
+        ),
+        // Node 0 is alone there.
+        (
+            &[
+                (Op::add(11, 1), 4),
+                (Op::load(0), 0),
+                (Op::load(24), 6),
+                (Op::load(25), 1),
+                (Op::load(319), 2),
+                (Op::load(283), 5),
+                (Op::load(282), 639),
+                (Op::load(26), 0),
+                (Op::add(11, 1), 5),
+            ],
+            Reply::Missing,
+        ),
+    ];
+    assert_looks_for(&rt, NET_3_PORT_5, 8, 0, &net_3);
 }
 
 #[test]

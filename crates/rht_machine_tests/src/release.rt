@@ -9,7 +9,7 @@ use crate::asserts::assert_same;
 use rht_model::{Reply, Room};
 use rht_policy::Low;
 use rht_release::{All, Rebind, Release};
-use rht_words::{Config, Env, Hash, Kind, Next, Op, Port, apply};
+use rht_words::{Config, Env, Hash, Kind, Next, Op, apply, port_of};
 use std::process::Abort;
 use std::test::Fail;
 
@@ -208,13 +208,13 @@ fn assert_steps<S: Steps>(
 /// A release of the port from the owner makes these steps.
 fn assert_release(
     rt: &impl Abort,
-    of: (Port, u32),
+    of: (u64, u32),
     changes: &[(usize, u64)],
     parts: &[&[Op]],
     end: (Reply, Option<u32>),
 ) {
     assert!(rt; CONFIG.is_settled());
-    let machine = Release::<Low>::new(Env::new(CONFIG), 0, of.0, of.1);
+    let machine = Release::<Low>::new(Env::new(CONFIG), 0, port_of(of.0), of.1);
     assert_steps(rt, machine, changes, parts, end);
 }
 
@@ -238,7 +238,7 @@ fn releases_of_ports_with_one_owner(rt: HostRuntime) {
         ..CONFIG
     };
     assert!(rt; config.is_settled());
-    let machine = Release::<Low>::new(Env::new(config), 0, 69, 1);
+    let machine = Release::<Low>::new(Env::new(config), 0, port_of(69), 1);
     assert_steps(&rt, machine, &[], &parts, (NO_KICK, Some(1)));
     let of_133 = [
         Op::load(300),
@@ -408,13 +408,13 @@ fn new_node(port: u64) -> [Op; 5] {
 /// A rebind of the port from the owner to owner 11 makes these steps.
 fn assert_rebind(
     rt: &impl Abort,
-    of: (Port, u32),
+    of: (u64, u32),
     changes: &[(usize, u64)],
     parts: &[&[Op]],
     end: (Reply, Option<u32>),
 ) {
     assert!(rt; CONFIG.is_settled());
-    let machine = Rebind::<Low>::new(Env::new(CONFIG), 0, of.0, of.1, 11);
+    let machine = Rebind::<Low>::new(Env::new(CONFIG), 0, port_of(of.0), of.1, 11);
     assert_steps(rt, machine, changes, parts, end);
 }
 
@@ -482,13 +482,13 @@ fn rebinds_that_are_not_made(rt: HostRuntime) {
 fn assert_all(
     rt: &impl Abort,
     room: Room<u32>,
-    port: Port,
+    port: u64,
     changes: &[(usize, u64)],
     parts: &[&[Op]],
     owners: &[u32],
 ) -> Room<u32> {
     assert!(rt; CONFIG.is_settled());
-    let machine = All::<Low>::new(Env::new(CONFIG), 0, port, room);
+    let machine = All::<Low>::new(Env::new(CONFIG), 0, port_of(port), room);
     assert!(rt; owners.len() < 9);
     let len = owners.len() as u32;
     let machine = assert_steps(rt, machine, changes, parts, (Reply::Listed { len }, None));

@@ -3,6 +3,7 @@ use Rattle.std.specs.Prelude.{ℕ, ◌+◌, ◌-◌, ◌*◌, ◌/◌, ◌%◌, 
 use Rattle.rht_words.specs.declared.config.Config.{Config}
 use Rattle.rht_words.specs.declared.config.Hash.{Hash}
 use Rattle.rht_words.specs.declared.config.Hash.TheVariants as hashes
+use Rattle.rht_words.specs.Ports.{net_of, number_of}
 use Rattle.rht_words.specs.Shapes.{size_of, unpacked}
 
 -- the difference of two words, which wraps
@@ -42,4 +43,4 @@ mix_named config = mix_of_hash config.hash
 
 -- the bucket of a port in a table whose slot has these words for its shape and its seed
 abbrev pub bucket_of : (ℕ → ℕ → ℕ → ℕ) → ℕ → ℕ → ℕ → ℕ
-bucket_of mix port shape seed = mix port 0 (seed % 2 ^ 32) % size_of (unpacked shape)
+bucket_of mix port shape seed = mix (number_of port) (net_of port) (seed % 2 ^ 32) % size_of (unpacked shape)

@@ -1,6 +1,7 @@
 //! The mixes of a port's number, its net and a seed, of which a hash is made.
 
 ghost use Rattle.std.specs.Prelude.{◌≡◌, ℕ, ◌<◌};
+ghost use Rattle.rht_words.specs.Ports.{net_of, number_of};
 ghost use Rattle.rht_policy.specs.Mix.{after_round, final_mix, low_mix, bucket_of};
 
 use rht_words::{Port, Shape};
@@ -62,9 +63,9 @@ pub(crate) fn round(word: u32, other: u32, by: u32) -> u32
 /// kernel's counterpart is `rht_key_get_hash`.
 #[inline(always)]
 pub fn hash_of<M: Mix>(port: Port, seed: u32) -> u32
-    ensures { result ≡ M.mix_of port 0 seed }
+    ensures { result ≡ M.mix_of (number_of port) (net_of port) seed }
 {
-    M::mix(port, 0, seed)
+    M::mix(port.number, port.net as u32, seed)
 }
 
 /// The bucket of a port in a table whose slot has these words for its shape and its seed. Any

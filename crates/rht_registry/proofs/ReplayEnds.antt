@@ -92,14 +92,14 @@ lines-for config env schedule lines same is sound =
     (subst (λ n. AllByRecursion (IsLineFor n) schedule) callers (sound-lines config schedule sound))
 
 -- and each command one for its table
-pub commands-for : (config : Config) (env : Env) (commands given : List (ℕ × Call)) → env.config ≡ config → given ≡ commands
-    → IsTrue (list_all (is_sound_command config) commands)
+pub commands-for : (form : ℕ) (config : Config) (env : Env) (commands given : List (ℕ × Call)) → env.config ≡ config → given ≡ commands
+    → IsTrue (list_all (is_sound_command form config) commands)
     → AllByRecursion (λ command. IsBuiltFor env.config.kind command.1) given
-commands-for config env commands given same is sound =
+commands-for form config env commands given same is sound =
     subst (λ l. AllByRecursion (λ (command : ℕ × Call). IsBuiltFor env.config.kind command.1) l) (sym is)
     (AllByRecursion-weaker (IsCommandFor config) (λ command. IsBuiltFor env.config.kind command.1)
     (λ command for. subst (λ (k : Config). IsBuiltFor k.kind command.1) (sym same) for.kind) commands
-    (sound-commands config commands sound))
+    (sound-commands form config commands sound))
 
 -- ---- its run
 
@@ -109,7 +109,7 @@ pub replay-in_run : (M : Type 0) (mix : ℕ → ℕ → ℕ → ℕ) (env : Env)
 replay-in_run M mix env script same sound =
     replay-runs M mix env script
     (subst (λ (k : Config). AllByRecursion (λ command. IsAdmittedCall command.1 × IsBuiltFor k.kind command.1) script.commands.items)
-    (sym same) (sound-calls script.config script.commands.items sound.settled sound.commands))
+    (sym same) (sound-calls script.form script.config script.commands.items sound.settled sound.commands))
     (lines-for script.config env script.schedule.items script.schedule.items same refl sound.schedule)
 
 -- ---- the whole

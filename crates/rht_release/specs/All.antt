@@ -7,7 +7,7 @@ use Rattle.rht_words.specs.declared.machine.Next.TheVariants.{Go, Done}
 use Rattle.rht_words.specs.declared.env.Env.{Env}
 use Rattle.rht_words.specs.declared.geometry.Geometry.{Geometry}
 use Rattle.rht_words.specs.Links.{node_of}
-use Rattle.rht_words.specs.Ports.{owner_of}
+use Rattle.rht_words.specs.Ports.{IsPort, owner_of}
 use Rattle.rht_words.specs.Places.{Node, OwnerWord, ListLink, place_of}
 use Rattle.rht_grace.specs.Sections.{turning}
 use Rattle.rht_chain.specs.Unlock.{unlock_plan, IsUnlockIn}
@@ -123,6 +123,6 @@ IsRoomIn at.Closing room = Unit {0}
 pub record IsAllIn (env : Env) (caller : ℕ) (m : AllModel) : Type 0 where
   pub same_env : m.env ≡ env
   pub same_caller : m.caller ≡ caller
-  pub port_in : m.port < 2 ^ 32
+  pub port_in : IsPort m.port
   pub at_in : IsAllAtIn env m.at
   pub room_in : IsRoomIn m.at m.room

@@ -9,7 +9,7 @@ use Rattle.rht_words.specs.declared.env.Env.{Env}
 use Rattle.rht_words.specs.declared.geometry.Geometry.{Geometry}
 use Rattle.rht_words.specs.Links.{link_of}
 use Rattle.rht_words.specs.Planned.{IsWord}
-use Rattle.rht_words.specs.Ports.{word_of, owner_of}
+use Rattle.rht_words.specs.Ports.{IsPort, word_of, owner_of}
 use Rattle.rht_words.specs.Places.{Node, ChainLink, OwnerWord, place_of}
 use Rattle.rht_arena.specs.NewNode.{NewNodeModel, new_node_new, new_node_plan, new_node_after, IsNewNodeIn}
 use Rattle.rht_arena.specs.GiveNode.{give_node_plan, IsGiveIn}
@@ -180,7 +180,7 @@ IsRebindAtIn env (at.Giving give) = IsGiveIn env.geometry give
 pub record IsRebindIn (env : Env) (caller : ℕ) (m : RebindModel) : Type 0 where
   pub same_env : m.env ≡ env
   pub same_caller : m.caller ≡ caller
-  pub port_in : m.port < 2 ^ 32
+  pub port_in : IsPort m.port
   pub owner_in : m.owner < 2 ^ 32
   pub new_owner_in : m.new_owner < 2 ^ 32
   pub at_in : IsRebindAtIn env m.at

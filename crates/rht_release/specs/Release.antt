@@ -8,7 +8,7 @@ use Rattle.rht_words.specs.declared.env.Env.{Env}
 use Rattle.rht_words.specs.declared.geometry.Geometry.{Geometry}
 use Rattle.rht_words.specs.Links.{link_of, node_of}
 use Rattle.rht_words.specs.Planned.{IsWord}
-use Rattle.rht_words.specs.Ports.{owner_of}
+use Rattle.rht_words.specs.Ports.{IsPort, owner_of}
 use Rattle.rht_words.specs.Shapes.{size_of, unpacked}
 use Rattle.rht_words.specs.Places.{PortCount, Node, ChainLink, OwnerWord, ListLink, place_of}
 use Rattle.rht_policy.specs.Thresholds.{is_below_30}
@@ -210,6 +210,6 @@ IsReleaseAtIn env (at.Closing reply removed) = IsNodeOrNone env.geometry removed
 pub record IsReleaseIn (env : Env) (caller : ℕ) (m : ReleaseModel) : Type 0 where
   pub same_env : m.env ≡ env
   pub same_caller : m.caller ≡ caller
-  pub port_in : m.port < 2 ^ 32
+  pub port_in : IsPort m.port
   pub owner_in : m.owner < 2 ^ 32
   pub at_in : IsReleaseAtIn env m.at

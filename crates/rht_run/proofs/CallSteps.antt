@@ -6,6 +6,7 @@ use Rattle.std.specs.List.{AllByRecursion, last_or}
 use Rattle.atomic_table.specs.declared.shared.Seat.{Seat}
 use Rattle.rht_words.specs.declared.env.Env.{Env}
 use Rattle.rht_words.specs.declared.config.Kind.TheVariants.{Single}
+use Rattle.rht_words.specs.Ports.{IsPort}
 use Rattle.rht_release.specs.Rebind.{rebind_new}
 use Rattle.rht_model.specs.declared.history.Call.{Call}
 use Rattle.rht_model.specs.declared.history.Call.TheVariants.{Rebind}
@@ -134,7 +135,7 @@ module _ {M : Type 0} where
 
   -- a rebind may begin in a table of one owner each
   pub may_rebind : (env : Env) (c port owner new : ℕ) (local : Local M) → env.config.kind ≡ Single → is_idle local ≡ true
-      → port < 2 ^ 32 → owner < 2 ^ 32 → new < 2 ^ 32 → MayBegin env c (Rebind port owner new) local
+      → IsPort port → owner < 2 ^ 32 → new < 2 ^ 32 → MayBegin env c (Rebind port owner new) local
   may_rebind env c port owner new local single idle port_in owner_in new_in = record {
     idle = idle;
     admitted = (port_in, owner_in, new_in);

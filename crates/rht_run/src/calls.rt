@@ -20,7 +20,7 @@ use crate::ride::{clear_rooms, keep_node};
 use crate::table::Table;
 use rht_model::{Call, Cursor, Reply};
 use rht_policy::Mix;
-use rht_words::{Geometry, Port};
+use rht_words::{Geometry, Port, word_of};
 use std::marker::Brand;
 use std::sync::Wait;
 
@@ -211,6 +211,8 @@ impl<M: Mix> Table<M> {
         ensures owners { AreOwnersWith result pass.new.local.owners.items }
         ensures cause { IsCaused M.mix_of self.now (All port) result pass.old pass.new }
     {
+        // A call may be made of each port, since a port's key word is below 2^48.
+        let _ = word_of(port);
         self.call(rt, pass, Call::All { port })
     }
 

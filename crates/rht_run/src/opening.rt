@@ -21,7 +21,8 @@ use std::alloc::{AllocError, Global};
 impl<M: Mix> Table<M> {
     /// A table with as many passes as its config has callers. The pass at place i of the list has the
     /// number i, is in no call and has made none, and has rooms for all nodes and a batch with room for
-    /// them. No call but `close` takes memory. The one refusal is want of memory, and then nothing
+    /// them. A pass's rooms take 24 bytes a node: 8 in its batch, 4 for owners and 12 for the pairs of a
+    /// walk. No call but `close` takes memory. The one refusal is want of memory, and then nothing
     /// stays. The kernel's counterpart is `rhashtable_init`.
     pub fn open(alloc: Global, config: Config) -> Result<(Table<M>, Vec<Pass<M>>), AllocError>
         requires { IsSettled config }

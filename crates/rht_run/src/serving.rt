@@ -40,8 +40,9 @@ impl<M: Mix> Table<M> {
         if let Call::Find { port } = call {
             return self.find(pass, port);
         }
+        let again = call;
         let reply = self.tried(rt, pass, call);
-        if auto && asks_for_work(call, reply) {
+        if auto && asks_for_work(again, reply) {
             self.work_off(rt, pass);
         }
         reply
@@ -56,10 +57,11 @@ impl<M: Mix> Table<M> {
         requires other { (port : ℕ) → call ≢ Find port }
         ensures { HasTried M.mix_of self.now call result pass.old pass.new }
     {
+        let again = call;
         match self.answer(rt, pass, call) {
             Reply::NoNode => {
                 self.tidy(pass);
-                self.answer(rt, pass, call)
+                self.answer(rt, pass, again)
             }
             reply => reply,
         }

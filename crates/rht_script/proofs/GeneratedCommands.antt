@@ -2,7 +2,7 @@
 -- Both go by induction over the rounds of a worker and over the workers, so that no list of so many commands is ever
 -- written out: what holds of the commands of each round holds of all, and what is counted in each is added up. Of two
 -- rounds that follow each other the first is even and the second is odd.
-use Rattle.std.proofs.Common.{◌≡◌, ℕ, zero, suc, ◌+◌, ◌*◌, ◌%◌, ◌^◌, ◌<◌, ◌≤◌, ◌==◌, Bool, true, false, cond, List, [], ◌++◌, length, length-append, append-nil, append_assoc, add-one, refl, sym, ap, ◌∙◌, subst, arith}
+use Rattle.std.proofs.Common.{◌≡◌, ℕ, zero, suc, ◌+◌, ◌*◌, ◌%◌, ◌^◌, ◌<◌, ◌≤◌, ◌==◌, Bool, true, false, cond, List, [], ◌++◌, length, length-append, append-nil, append_assoc, add-one, inr, refl, sym, ap, ◌∙◌, subst, arith}
 use Rattle.std.specs.List.{AllByRecursion, flat_map, range_with_len}
 use Rattle.std.proofs.lemmas.List.Elements.{All-from_recursion, All-nil}
 use Rattle.std.proofs.lemmas.List.Sums.{sum_by-append}
@@ -13,7 +13,8 @@ use Rattle.rht_words.proofs.Rounding.{IsGreatestSize-zero}
 use Rattle.rht_words.proofs.EachElement.{AllByRecursion-append}
 use Rattle.rht_model.specs.declared.history.Call.{Call}
 use Rattle.rht_model.specs.declared.history.Call.TheVariants.{Bind, Find}
-use Rattle.rht_script.specs.CommandLines.{port_limits, owner_limits, worker_limits}
+use Rattle.rht_script.specs.CommandLines.{owner_limits, worker_limits}
+use Rattle.rht_script.specs.PortWords.{one_number, IsPortIn}
 use Rattle.rht_script.specs.Plain.{IsSayableCall, IsSayableCommand, IsSayableSched}
 use Rattle.rht_script.specs.Generated.{generated_config, middle_call, round_commands, round_port, worker_commands, generated_commands, GeneratedSayable, is_bind, is_find, is_release, how_many, GeneratedCounts}
 
@@ -55,21 +56,21 @@ each_of_range P f a (suc n) holds =
 
 module _ (number : ℕ) where
   abbrev IsSaid : ℕ × Call → Type 0
-  IsSaid command = IsSayableCommand (generated_config number) command
+  IsSaid command = IsSayableCommand one_number (generated_config number) command
 
   round_sayable : (worker port : ℕ) (even : Bool) → 1 ≤ worker → worker ≤ 8 → port < 100000
       → AllByRecursion IsSaid (round_commands worker port even)
   round_sayable worker port even first last low =
       let one_of : IsWithinLimits (worker_limits (generated_config number)) worker = (first, last) in
-      let port_is : IsWithinLimits port_limits port = (omega arith, omega (arith, low)) in
-      let other_is : IsWithinLimits port_limits (port + 5000) = (omega arith, omega (arith, low)) in
+      let port_is : IsPortIn one_number port = (omega (arith, low), inr (omega (arith, low))) in
+      let other_is : IsPortIn one_number (port + 5000) = (omega (arith, low), inr (omega (arith, low))) in
       let owner_is : IsWithinLimits owner_limits worker = (omega arith, omega (arith, last)) in
       let bind : IsSaid (worker, Bind port worker false) = (one_of, (port_is, owner_is, refl)) in
       let find : IsSaid (worker, Find port) = (one_of, port_is) in
       (bind, (find, ((one_of, middle even port_is owner_is), (find, ((one_of, other_is), tt)))))
     where
-      middle : (b : Bool) → IsWithinLimits port_limits port → IsWithinLimits owner_limits worker
-          → IsSayableCall (generated_config number) (middle_call worker port b)
+      middle : (b : Bool) → IsPortIn one_number port → IsWithinLimits owner_limits worker
+          → IsSayableCall one_number (generated_config number) (middle_call worker port b)
       middle true port_is owner_is = (port_is, owner_is, refl)
       middle false port_is owner_is = (port_is, owner_is)
 
@@ -195,7 +196,8 @@ generated_counts number = record {
 pub generated_sayable : GeneratedSayable
 generated_sayable number small = record {
   config = config_settled number small;
-  commands = All-from_recursion (IsSayableCommand (generated_config number)) (generated_commands number)
+  form = (omega arith, omega arith);
+  commands = All-from_recursion (IsSayableCommand one_number (generated_config number)) (generated_commands number)
       (commands_sayable number);
   schedule = All-nil (IsSayableSched (generated_config number));
   few = (let counted = (generated_counts number).all in omega (arith, counted));

@@ -20,6 +20,8 @@ pub mod FirstFaults
 pub mod Meanings
 -- plain words, and numbers in decimal
 pub mod PlainWords
+-- a port is read back from its text
+pub mod PortTexts
 -- what is spelled plainly is read back
 pub mod PlainScripts
 -- whatever is read can be said

@@ -2,7 +2,7 @@
 -- is read as the command, case by case of the verbs, a line of the schedule as that, and the table line as the config,
 -- option by option: each is set once, its number is within its limits, and the least size and the greatest are rounded
 -- already. By induction over the commands and the schedule behind them, their lines are read as they.
-use Rattle.std.proofs.Common.{◌≡◌, ℕ, ◌+◌, ◌*◌, ◌^◌, ◌<◌, ◌≤◌, ◌==◌, Bool, true, false, cond, Option, Some, None, Ok, List, [], ◌∷◌, ◌++◌, length, length-append, map, max, unwrap_or, refl, sym, ap, ◌∙◌, inl, inr, arith}
+use Rattle.std.proofs.Common.{◌≡◌, ℕ, ◌+◌, ◌*◌, ◌^◌, ◌<◌, ◌≤◌, ◌==◌, Bool, true, false, cond, Option, Some, None, Ok, List, [], ◌∷◌, ◌++◌, length, map, max, unwrap_or, refl, sym, ap, ◌∙◌, inl, inr, arith}
 use Rattle.std.specs.Prelude.{codes, decimal}
 use Rattle.std.specs.List.{AllByRecursion, flat_map}
 use Rattle.std.proofs.lemmas.Bool.{cases_Bool, le-leb, eqb-false, eqb-true}
@@ -26,12 +26,13 @@ use Rattle.rht_script.specs.declared.script.Sched.TheVariants.{Step, Skip, Finis
 use Rattle.rht_script.specs.declared.script.ScriptLine.{ScriptLine}
 use Rattle.rht_script.specs.declared.script.ScriptLine.TheVariants.{Command, Schedule}
 use Rattle.rht_script.specs.declared.options.Setting.{Setting}
-use Rattle.rht_script.specs.declared.options.Setting.TheVariants.{Nodes, Hint, Min, Max, Pages, Workers, Seed, Rewalks, Hashing, Shrink, Auto}
+use Rattle.rht_script.specs.declared.options.Setting.TheVariants.{Nodes, Hint, Min, Max, Pages, Workers, Seed, Rewalks, Form, Hashing, Shrink, Auto}
 use Rattle.rht_script.specs.declared.options.Options.{Options}
 use Rattle.rht_script.specs.Spelling.{◌>>=◌, lines_of, is_skipped, number_of}
 use Rattle.rht_script.specs.Grammar.{most_lines, most_in_line, words_at, lines_from, said_from}
-use Rattle.rht_script.specs.TableLines.{one_number, no_options, kind_of, with_setting, setting_of, options_from, configured, sizes_agree, has_room, rounded_min, config_of, table_of}
-use Rattle.rht_script.specs.CommandLines.{port_limits, owner_limits, worker_limits, bind_of, find_of, all_of, release_of, of_single, rebind_of, bare_of, call_of, command_of}
+use Rattle.rht_script.specs.TableLines.{no_options, kind_of, with_setting, setting_of, options_from, configured, sizes_agree, has_room, rounded_min, config_of, table_of}
+use Rattle.rht_script.specs.CommandLines.{owner_limits, worker_limits, bind_of, find_of, all_of, release_of, of_single, rebind_of, bare_of, call_of, command_of}
+use Rattle.rht_script.specs.PortWords.{form_limits, IsForm}
 use Rattle.rht_script.specs.ScheduleLines.{event_limits, events_of}
 use Rattle.rht_script.specs.ScriptLines.{line_of, commands_among, schedule_among}
 use Rattle.rht_script.specs.Plain.{IsSayableCall, IsSayableCommand, IsSayableSched, number_or_none, kind_word, hash_word, switch_word, auto_word, table_words, call_words, command_words, sched_words, line_words, plain_order, plain_line, plain_script}
@@ -40,28 +41,33 @@ use Rattle.rht_script.proofs.LineLemmas.{words_at-right}
 use Rattle.rht_script.proofs.PiecesLemmas.{lines_of-empty}
 use Rattle.rht_script.proofs.ReadingLemmas.{reading_of-lines}
 use Rattle.rht_script.proofs.ReadLines.{HoldsOfLine}
-use Rattle.rht_script.proofs.PlainWords.{number_of-decimal, IsPlainWord, plain_name, IsPlainWord-decimal, BeginsNoSchedule-decimal, is_comment-decimal, spaced_words, words_of-spaced, length-spaced, length-spaced_two, lines_of-plain}
+use Rattle.rht_script.proofs.PlainWords.{digits_few, number_of-decimal, IsPlainWord, plain_name, IsPlainWord-decimal, BeginsNoSchedule-decimal, is_comment-decimal, spaced_words, words_of-spaced, letters, letters-append, length-spaced, letters-plain, lines_of-plain}
+use Rattle.rht_script.proofs.PortTexts.{port_of_word-text, IsPlainWord-port_text}
 
 -- ---- calls
 
-module _ (config : Config) where
+module _ (table : TableLine) where
+  -- what can be asked below this table line
+  abbrev IsSayableHere : Call → Type 0
+  IsSayableHere call = IsSayableCall table.form table.config call
+
   -- by cases: of each call for which there is a verb
-  call_of-plain : (call : Call) → IsSayableCall config call → call_of config (call_words call) ≡ Ok call
+  call_of-plain : (call : Call) → IsSayableHere call → call_of table (call_words call) ≡ Ok call
   unfolding call_of bind_of find_of all_of release_of rebind_of bare_of
   call_of-plain (Bind port owner once) sayable =
-      let port_is = number_of-decimal port (omega (arith, sayable.0)) port_limits sayable.0 in
+      let port_is = port_of_word-text table.form port sayable.0 in
       let owner_is = number_of-decimal owner (omega (arith, sayable.1)) owner_limits sayable.1 in
       rw (port_is, owner_is) (ap (λ o. Ok (Bind port owner o)) (sym sayable.2))
   call_of-plain (Find port) sayable =
-      rw (number_of-decimal port (omega (arith, sayable)) port_limits sayable) refl
+      rw (port_of_word-text table.form port sayable) refl
   call_of-plain (ListAll port) sayable =
-      rw (number_of-decimal port (omega (arith, sayable)) port_limits sayable) refl
+      rw (port_of_word-text table.form port sayable) refl
   call_of-plain (Release port owner) sayable =
-      let port_is = number_of-decimal port (omega (arith, sayable.0)) port_limits sayable.0 in
+      let port_is = port_of_word-text table.form port sayable.0 in
       let owner_is = number_of-decimal owner (omega (arith, sayable.1)) owner_limits sayable.1 in
       rw (port_is, owner_is) refl
   call_of-plain (Rebind port owner new) sayable =
-      let port_is = number_of-decimal port (omega (arith, sayable.0)) port_limits sayable.0 in
+      let port_is = port_of_word-text table.form port sayable.0 in
       let owner_is = number_of-decimal owner (omega (arith, sayable.1)) owner_limits sayable.1 in
       let new_is = number_of-decimal new (omega (arith, sayable.2)) owner_limits sayable.2 in
       rw (port_is, owner_is, new_is) (ap (λ (k : Kind). of_single k (Rebind port owner new)) sayable.3)
@@ -71,24 +77,24 @@ module _ (config : Config) where
   call_of-plain Count sayable = refl
 
   -- the words of a call are plain, and at most four
-  call_words-plain : (call : Call) → IsSayableCall config call
+  call_words-plain : (call : Call) → IsSayableHere call
       → AllByRecursion IsPlainWord (call_words call) × (length (call_words call) ≤ 4)
   call_words-plain (Bind port owner once) sayable =
-      let port_is = IsPlainWord-decimal port (omega (arith, sayable.0)) in
+      let port_is = IsPlainWord-port_text table.form port sayable.0 in
       let owner_is = IsPlainWord-decimal owner (omega (arith, sayable.1)) in
       ((plain_name refl, (port_is, (owner_is, tt))), omega arith)
   call_words-plain (Find port) sayable =
-      let port_is = IsPlainWord-decimal port (omega (arith, sayable)) in
+      let port_is = IsPlainWord-port_text table.form port sayable in
       ((plain_name refl, (port_is, tt)), omega arith)
   call_words-plain (ListAll port) sayable =
-      let port_is = IsPlainWord-decimal port (omega (arith, sayable)) in
+      let port_is = IsPlainWord-port_text table.form port sayable in
       ((plain_name refl, (port_is, tt)), omega arith)
   call_words-plain (Release port owner) sayable =
-      let port_is = IsPlainWord-decimal port (omega (arith, sayable.0)) in
+      let port_is = IsPlainWord-port_text table.form port sayable.0 in
       let owner_is = IsPlainWord-decimal owner (omega (arith, sayable.1)) in
       ((plain_name refl, (port_is, (owner_is, tt))), omega arith)
   call_words-plain (Rebind port owner new) sayable =
-      let port_is = IsPlainWord-decimal port (omega (arith, sayable.0)) in
+      let port_is = IsPlainWord-port_text table.form port sayable.0 in
       let owner_is = IsPlainWord-decimal owner (omega (arith, sayable.1)) in
       let new_is = IsPlainWord-decimal new (omega (arith, sayable.2)) in
       ((plain_name refl, (port_is, (owner_is, (new_is, tt)))), omega arith)
@@ -117,20 +123,20 @@ module _ (table : TableLine) (callers : table.config.callers < 2 ^ 32) where
   number_plain : (number : ℕ) → IsWithinLimits event_limits number → IsPlainWord (decimal number)
   number_plain number within = IsPlainWord-decimal number (omega (arith, within))
 
-  command_of-plain : (command : ℕ × Call) → IsSayableCommand table.config command
+  command_of-plain : (command : ℕ × Call) → IsSayableCommand table.form table.config command
       → command_of table (command_words command) ≡ Ok command
   unfolding command_of
   command_of-plain command sayable =
       let other = BeginsNoSchedule-decimal command.0 (omega (arith, sayable.0, callers)) in
       let worker_is = worker_read command.0 sayable.0 in
-      let call_is = call_of-plain table.config command.1 sayable.1 in
+      let call_is = call_of-plain table command.1 sayable.1 in
       rw (other.step, other.skip, other.finish, worker_is, call_is) refl
 
   -- the words of a command are plain, and at most five
-  command_words-plain : (command : ℕ × Call) → IsSayableCommand table.config command
+  command_words-plain : (command : ℕ × Call) → IsSayableCommand table.form table.config command
       → AllByRecursion IsPlainWord (command_words command) × (length (command_words command) ≤ 5)
   command_words-plain command sayable =
-      let call = call_words-plain table.config command.1 sayable.1 in
+      let call = call_words-plain table command.1 sayable.1 in
       ((worker_plain command.0 sayable.0, call.0), omega (arith, call.1))
 
   -- ---- lines of the schedule
@@ -159,7 +165,7 @@ module _ (table : TableLine) (callers : table.config.callers < 2 ^ 32) where
 
   -- a line can say this
   abbrev IsSayableLine : ScriptLine → Type 0
-  IsSayableLine line = HoldsOfLine (IsSayableCommand table.config) (IsSayableSched table.config) line
+  IsSayableLine line = HoldsOfLine (IsSayableCommand table.form table.config) (IsSayableSched table.config) line
 
   line_of-plain : (line : ScriptLine) → IsSayableLine line → line_of table (line_words line) ≡ Ok line
   unfolding line_of
@@ -193,7 +199,7 @@ module _ (table : TableLine) (callers : table.config.callers < 2 ^ 32) where
       let behind = flat_map (λ line. plain_line (line_words line)) lines in
       let read : words_at number (spaced_words words) ≡ Ok words =
       words_at-right number (spaced_words words) (omega (arith, few))
-      (omega (arith, length-spaced words plain.0, plain.1))
+      (omega (arith, length-spaced words, letters-plain words plain.0, plain.1))
       ∙ ap (λ (ws : List (List ℕ)). Ok ws) (words_of-spaced words plain.0) in
       let onward = lines_from-plain (number + 1) lines sayable.1 (omega (arith, few)) in
       ap (lines_from number table) (lines_of-plain words behind plain.0)
@@ -258,6 +264,11 @@ unfolding setting_of
 set_rewalks number within =
     set_number Rewalks rewalk_limits (codes "rewalks") (λ value. refl) number (omega (arith, within)) within
 
+set_form : (number : ℕ) → IsForm number → setting_of (codes "form") (decimal number) ≡ Ok (Form number)
+unfolding setting_of
+set_form number within = set_number Form form_limits (codes "form") (λ value. refl) number
+    (omega (arith, within)) within
+
 set_hash : (hash : Hash) → setting_of (codes "hash") (hash_word hash) ≡ Ok (Hashing hash)
 unfolding setting_of
 set_hash Mix = refl
@@ -293,9 +304,9 @@ made-same : (config : Config)
 unfolding made
 made-same config = refl
 
--- the options that the line of a config and of whether workers run `work` by themselves sets
-abbrev options_said : Config → Bool → Option ℕ → Option ℕ → Options
-options_said config auto hint most = record {
+-- the options that the line of a config, of whether workers run `work` by themselves, and of a form sets
+abbrev options_said : Config → Bool → ℕ → Option ℕ → Option ℕ → Options
+options_said config auto form hint most = record {
   nodes = Some config.nodes;
   hint = hint;
   min = Some config.min;
@@ -304,6 +315,7 @@ options_said config auto hint most = record {
   workers = Some config.callers;
   seed = Some config.seed;
   rewalks = Some config.rewalks;
+  form = Some form;
   hash = Some config.hash;
   shrink = Some config.shrink;
   auto = Some auto;
@@ -320,11 +332,6 @@ kind_word-plain : (kind : Kind) → IsPlainWord (kind_word kind)
 kind_word-plain Single = plain_name refl
 kind_word-plain Listed = plain_name refl
 
--- a word for a kind has six bytes
-length-kind_word : (kind : Kind) → length (kind_word kind) ≡ 6
-length-kind_word Single = refl
-length-kind_word Listed = refl
-
 hash_word-plain : (hash : Hash) → IsPlainWord (hash_word hash)
 hash_word-plain Mix = plain_name refl
 hash_word-plain Low = plain_name refl
@@ -339,13 +346,14 @@ auto_word-plain false = plain_name refl
 
 -- so is a name with its number, or without one
 number_or_none-plain : (name : List ℕ) → IsPlainWord name → (number : ℕ) → number < 2 ^ 32
-    → AllByRecursion IsPlainWord (number_or_none name number) × (length (number_or_none name number) ≤ 2)
+    → AllByRecursion IsPlainWord (number_or_none name number)
+    × (letters (number_or_none name number) ≤ length name + 12)
 number_or_none-plain name plain number small = elim (cases_Bool (number == 0)) [
   | inl none ↦ rw none (tt, omega arith)
-  | inr some ↦ rw some ((plain, (IsPlainWord-decimal number small, tt)), omega arith)
+  | inr some ↦ rw some ((plain, (IsPlainWord-decimal number small, tt)), omega (arith, digits_few number small))
 ]
 
-module _ (config : Config) (auto : Bool) (settled : IsSettled config) where
+module _ (config : Config) (auto : Bool) (form : ℕ) (settled : IsSettled config) (is_form : IsForm form) where
   -- the hint and the greatest size, where there is one
   abbrev hint_said : Option ℕ
   hint_said = cond (config.hint == 0) None (Some config.hint)
@@ -354,31 +362,31 @@ module _ (config : Config) (auto : Bool) (settled : IsSettled config) where
   max_said = cond (config.max == 0) None (Some config.max)
 
   options_from-max : (hint : Option ℕ)
-      → options_from (options_said config auto hint None) (number_or_none (codes "max") config.max) ≡ Ok
-      (options_said config auto hint max_said)
+      → options_from (options_said config auto form hint None) (number_or_none (codes "max") config.max) ≡ Ok
+      (options_said config auto form hint max_said)
   options_from-max hint = elim (cases_Bool (config.max == 0)) [
     | inl none ↦ rw none refl
     | inr some ↦
         rw some
-        (options_from-step (options_said config auto hint None) (Max config.max) (codes "max")
+        (options_from-step (options_said config auto form hint None) (Max config.max) (codes "max")
         (decimal config.max) []
         (set_max config.max (settled.greatest.within (eqb-false config.max 0 some))))
   ]
 
-  options_from-hint : options_from (options_said config auto None None) (number_or_none (codes "hint") config.hint
-      ++ number_or_none (codes "max") config.max) ≡ Ok (options_said config auto hint_said max_said)
+  options_from-hint : options_from (options_said config auto form None None) (number_or_none (codes "hint") config.hint
+      ++ number_or_none (codes "max") config.max) ≡ Ok (options_said config auto form hint_said max_said)
   options_from-hint = elim (cases_Bool (config.hint == 0)) [
     | inl none ↦ rw none (options_from-max None)
     | inr some ↦
         let positive : 1 ≤ config.hint = omega (arith, eqb-false config.hint 0 some) in
         rw some
-        (options_from-step (options_said config auto None None) (Hint config.hint) (codes "hint")
+        (options_from-step (options_said config auto form None None) (Hint config.hint) (codes "hint")
         (decimal config.hint) (number_or_none (codes "max") config.max)
         (set_hint config.hint (positive, settled.hint))
         ∙ options_from-max (Some config.hint))
   ]
 
-  -- the words of the table line from the seed on, from the nodes on, and all behind the kind (split so, the options are
+  -- the words of the table line from the seed on, from the form on, and all behind the kind (split so, the options are
   -- set in few steps at a time)
   abbrev last_words : List (List ℕ)
   last_words =
@@ -387,7 +395,7 @@ module _ (config : Config) (auto : Bool) (settled : IsSettled config) where
 
   abbrev number_words : List (List ℕ)
   number_words =
-      codes "nodes" ∷ decimal config.nodes ∷ codes "min" ∷ decimal config.min
+      codes "form" ∷ decimal form ∷ codes "nodes" ∷ decimal config.nodes ∷ codes "min" ∷ decimal config.min
       ∷ codes "pages" ∷ decimal config.pages ∷ codes "workers" ∷ decimal config.callers ∷ last_words
 
   abbrev option_words : List (List ℕ)
@@ -397,25 +405,26 @@ module _ (config : Config) (auto : Bool) (settled : IsSettled config) where
 
   -- what is set before each of them
   abbrev set_before_last : Options
-  set_before_last = record (options_said config auto None None) { seed = None; rewalks = None }
+  set_before_last = record (options_said config auto form None None) { seed = None; rewalks = None }
 
   abbrev set_before_numbers : Options
   set_before_numbers =
       record no_options { hash = Some config.hash; shrink = Some config.shrink; auto = Some auto }
 
-  options_from-last : options_from set_before_last last_words ≡ Ok (options_said config auto hint_said max_said)
+  options_from-last : options_from set_before_last last_words ≡ Ok (options_said config auto form hint_said max_said)
   options_from-last =
       rw (set_seed config.seed (omega arith, settled.seed))
       (rw (set_rewalks config.rewalks (omega arith, settled.rewalks)) options_from-hint)
 
-  options_from-numbers : options_from set_before_numbers number_words ≡ Ok (options_said config auto hint_said max_said)
+  options_from-numbers : options_from set_before_numbers number_words ≡ Ok (options_said config auto form hint_said max_said)
   options_from-numbers =
-      rw (set_nodes config.nodes settled.geometry.nodes_within)
+      rw (set_form form is_form)
+      (rw (set_nodes config.nodes settled.geometry.nodes_within)
       (rw (set_min config.min (omega (arith, settled.least.within), settled.least.within.1))
       (rw (set_pages config.pages settled.geometry.pages_within)
-      (rw (set_workers config.callers settled.geometry.callers_within) options_from-last)))
+      (rw (set_workers config.callers settled.geometry.callers_within) options_from-last))))
 
-  options_from-plain : options_from no_options option_words ≡ Ok (options_said config auto hint_said max_said)
+  options_from-plain : options_from no_options option_words ≡ Ok (options_said config auto form hint_said max_said)
   options_from-plain = rw set_hash (rw (set_shrink config.shrink) (rw (set_auto auto) options_from-numbers))
 
   hint_same : unwrap_or hint_said plain_config.hint ≡ config.hint
@@ -436,7 +445,7 @@ module _ (config : Config) (auto : Bool) (settled : IsSettled config) where
   ]
 
   -- the options stand for the config
-  configured-said : configured config.kind (options_said config auto hint_said max_said) ≡ config
+  configured-said : configured config.kind (options_said config auto form hint_said max_said) ≡ config
   unfolding configured made
   configured-said =
       let hint = unwrap_or hint_said plain_config.hint in
@@ -453,14 +462,14 @@ module _ (config : Config) (auto : Bool) (settled : IsSettled config) where
         (le-leb config.min config.max (settled.agree (eqb-false config.max 0 some)))
   ]
 
-  config_of-plain : config_of config.kind (options_said config auto hint_said max_said) ≡ Ok config
+  config_of-plain : config_of config.kind (options_said config auto form hint_said max_said) ≡ Ok config
   unfolding config_of
   config_of-plain =
       let room : has_room config ≡ true = le-leb (first_size config) (page_words * config.pages)
       settled.starts in
       rw (configured-said, sizes_agree-settled, room) refl
 
-  table_of-plain : table_of (table_words config auto) ≡ Ok (record { config = config; auto = auto; form = one_number })
+  table_of-plain : table_of (table_words config auto form) ≡ Ok (record { config = config; auto = auto; form = form })
   unfolding table_of
   table_of-plain = rw (kind_of-plain config.kind, options_from-plain, config_of-plain) refl
 
@@ -471,16 +480,14 @@ module _ (config : Config) (auto : Bool) (settled : IsSettled config) where
     | inr some ↦ omega (arith, settled.greatest.within (eqb-false config.max 0 some))
   ]
 
-  -- the words of the table line are plain, and at most twenty-four
-  table_words-plain : AllByRecursion IsPlainWord (table_words config auto) × (length (table_words config auto) ≤ 24)
+  -- the words of the table line are plain
+  table_words-plain : AllByRecursion IsPlainWord (table_words config auto form)
   table_words-plain =
       let number = IsPlainWord-decimal in
       let hint = number_or_none-plain (codes "hint") (plain_name refl) config.hint (omega (arith, settled.hint)) in
       let max = number_or_none-plain (codes "max") (plain_name refl) config.max max_small in
       let behind = AllByRecursion-append IsPlainWord (number_or_none (codes "hint") config.hint)
       (number_or_none (codes "max") config.max) hint.0 max.0 in
-      let few = length-append (number_or_none (codes "hint") config.hint)
-      (number_or_none (codes "max") config.max) in
       let last : AllByRecursion IsPlainWord last_words = (
         plain_name refl,
         (
@@ -491,60 +498,87 @@ module _ (config : Config) (auto : Bool) (settled : IsSettled config) where
       let numbers : AllByRecursion IsPlainWord number_words = (
         plain_name refl,
         (
-          number config.nodes (omega (arith, settled.geometry.nodes_within)),
+          number form (omega (arith, is_form)),
           (
             plain_name refl,
             (
-              number config.min (omega (arith, settled.least.within)),
+              number config.nodes (omega (arith, settled.geometry.nodes_within)),
               (
                 plain_name refl,
                 (
-                  number config.pages (omega (arith, settled.geometry.pages_within)),
-                  (plain_name refl, (number config.callers (omega (arith, settled.geometry.callers_within)), last)),
+                  number config.min (omega (arith, settled.least.within)),
+                  (
+                    plain_name refl,
+                    (
+                      number config.pages (omega (arith, settled.geometry.pages_within)),
+                      (plain_name refl, (number config.callers (omega (arith, settled.geometry.callers_within)), last)),
+                    ),
+                  ),
                 ),
               ),
             ),
           ),
         ),
       ) in (
+        plain_name refl,
         (
-          plain_name refl,
+          kind_word-plain config.kind,
           (
-            kind_word-plain config.kind,
+            plain_name refl,
             (
-              plain_name refl,
-              (
-                hash_word-plain config.hash,
-                (plain_name refl, (switch_word-plain config.shrink, (plain_name refl, (auto_word-plain auto, numbers)))),
-              ),
+              hash_word-plain config.hash,
+              (plain_name refl, (switch_word-plain config.shrink, (plain_name refl, (auto_word-plain auto, numbers)))),
             ),
           ),
         ),
-        omega (arith, hint.1, max.1, few),
       )
 
-  -- The first two have eleven bytes together, and so the line isn't too long: it has at most 255.
-  table_words-short : length (spaced_words (table_words config auto)) ≤ most_in_line
+  -- how long the numbers' words are together: each has up to ten digits
+  letters-last : letters last_words ≤ 66
+  letters-last =
+      let hint = number_or_none-plain (codes "hint") (plain_name refl) config.hint (omega (arith, settled.hint)) in
+      let max = number_or_none-plain (codes "max") (plain_name refl) config.max max_small in
+      let seed = digits_few config.seed (omega (arith, settled.seed)) in
+      let rewalks = digits_few config.rewalks (omega (arith, settled.rewalks)) in
+      omega (
+        arith,
+        hint.1,
+        max.1,
+        seed,
+        rewalks,
+        letters-append (number_or_none (codes "hint") config.hint) (number_or_none (codes "max") config.max),
+      )
+
+  letters-numbers : letters number_words ≤ 150
+  letters-numbers =
+      let form_few = digits_few form (omega (arith, is_form)) in
+      let nodes = digits_few config.nodes (omega (arith, settled.geometry.nodes_within)) in
+      let min = digits_few config.min (omega (arith, settled.least.within)) in
+      let pages = digits_few config.pages (omega (arith, settled.geometry.pages_within)) in
+      let workers = digits_few config.callers (omega (arith, settled.geometry.callers_within)) in
+      omega (arith, form_few, nodes, min, pages, workers, letters-last)
+
+  -- The other words have up to 91 bytes, each with a space, and so the line isn't too long: it has at most 241.
+  table_words-short : length (spaced_words (table_words config auto form)) ≤ most_in_line
   table_words-short =
-      let plain = table_words-plain in
-      let few : length option_words ≤ 22 = omega (arith, plain.1) in
-      let long : length (spaced_words (table_words config auto))
-      ≤ 5 + length (kind_word config.kind) + 2 + 11 * length option_words =
-      length-spaced_two (codes "table") (kind_word config.kind) option_words plain.0.1.1 in
-      omega (arith, long, length-kind_word config.kind, few)
+      let kind = (kind_word-plain config.kind).short in
+      let hash = (hash_word-plain config.hash).short in
+      let shrink = (switch_word-plain config.shrink).short in
+      let work = (auto_word-plain auto).short in
+      omega (arith, kind, hash, shrink, work, letters-numbers, length-spaced (table_words config auto form))
 
 -- ---- the plain order
 
-module _ (config : Config) where
+module _ (form : ℕ) (config : Config) where
   -- behind all commands comes the schedule, each line of which can be said
   schedule_each : (schedule : List Sched) → AllByRecursion (IsSayableSched config) schedule
-      → AllByRecursion (HoldsOfLine (IsSayableCommand config) (IsSayableSched config)) (map Schedule schedule)
+      → AllByRecursion (HoldsOfLine (IsSayableCommand form config) (IsSayableSched config)) (map Schedule schedule)
   schedule_each [] each = tt
   schedule_each (sched ∷ schedule) each = (each.0, schedule_each schedule each.1)
 
   order_each : (commands : List (ℕ × Call)) (schedule : List Sched)
-      → AllByRecursion (IsSayableCommand config) commands → AllByRecursion (IsSayableSched config) schedule
-      → AllByRecursion (HoldsOfLine (IsSayableCommand config) (IsSayableSched config))
+      → AllByRecursion (IsSayableCommand form config) commands → AllByRecursion (IsSayableSched config) schedule
+      → AllByRecursion (HoldsOfLine (IsSayableCommand form config) (IsSayableSched config))
       (map Command commands ++ map Schedule schedule)
   order_each [] schedule each others = schedule_each schedule others
   order_each (command ∷ commands) schedule each others =
@@ -580,21 +614,22 @@ reads_back said can short =
     let config = said.config in
     let settled = can.config in
     let auto = said.auto in
+    let form = said.form in
     let lines = plain_order said in
-    let table : TableLine = record { config = config; auto = auto; form = one_number } in
-    let words = table_words config auto in
-    let plain = table_words-plain config auto settled in
+    let table : TableLine = record { config = config; auto = auto; form = form } in
+    let words = table_words config auto form in
+    let plain = table_words-plain config auto form settled can.form in
     let behind = flat_map (λ line. plain_line (line_words line)) lines in
     let callers : config.callers < 2 ^ 32 = omega (arith, settled.geometry.callers_within) in
     let read : words_at 1 (spaced_words words) ≡ Ok words =
-    words_at-right 1 (spaced_words words) (omega arith) (table_words-short config auto settled)
-    ∙ ap (λ (ws : List (List ℕ)). Ok ws) (words_of-spaced words plain.0) in
-    let each = order_each config said.commands said.schedule
-    (recursion_from_All (IsSayableCommand config) said.commands can.commands)
+    words_at-right 1 (spaced_words words) (omega arith) (table_words-short config auto form settled can.form)
+    ∙ ap (λ (ws : List (List ℕ)). Ok ws) (words_of-spaced words plain) in
+    let each = order_each form config said.commands said.schedule
+    (recursion_from_All (IsSayableCommand form config) said.commands can.commands)
     (recursion_from_All (IsSayableSched config) said.schedule can.schedule) in
     let count = length-order said.commands said.schedule in
     let lines_read = lines_from-plain table callers 2 lines each (omega (arith, can.few, count)) in
     reading_of-lines (plain_line words ++ behind) short
-    ∙ ap (said_from 1) (lines_of-plain words behind plain.0)
-    ∙ rw (read, table_of-plain config auto settled, lines_read)
+    ∙ ap (said_from 1) (lines_of-plain words behind plain)
+    ∙ rw (read, table_of-plain config auto form settled can.form, lines_read)
     (rw (commands_among-order said.commands said.schedule, schedule_among-order said.commands said.schedule) refl)

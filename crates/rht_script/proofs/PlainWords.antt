@@ -5,7 +5,7 @@ use Rattle.std.proofs.Common.{◌≡◌, ℕ, ◌+◌, ◌-◌, ◌*◌, ◌%◌
 use Rattle.std.specs.Prelude.{All, codes, decimal, filter, nat_le}
 use Rattle.std.specs.Char.{is_ascii_digit}
 use Rattle.std.specs.List.{AllByRecursion, list_all, join_with_byte, slice_split}
-use Rattle.std.proofs.lemmas.Bool.{le-leb, leb-true, lt-ltb, ne_eqb, and_from, and_parts, not-true, cond-true}
+use Rattle.std.proofs.lemmas.Bool.{le-leb, leb-true, lt-ltb, ne_eqb, and_from, and_parts, not-true, cond-true, false≢true}
 use Rattle.std.proofs.lemmas.Fmt.{decimal_by_steps, decimal_nonempty, length-decimal-le}
 use Rattle.std.proofs.lemmas.List.Elements.{All-nil, All-cons, All-append}
 use Rattle.std.proofs.lemmas.List.Folds.{list_all-append}
@@ -20,7 +20,7 @@ use Rattle.rht_script.proofs.PiecesLemmas.{onto_pieces}
 -- ---- digits
 
 -- these are digits, and stand for the number
-abbrev IsDigitsOf : ℕ → List ℕ → Type 0
+abbrev pub IsDigitsOf : ℕ → List ℕ → Type 0
 IsDigitsOf number digits = (list_all is_ascii_digit digits ≡ true) × (value_of digits ≡ number)
 
 is_ascii_digit-digit : (digit : ℕ) → digit < 10 → is_ascii_digit (48 + digit) ≡ true
@@ -81,22 +81,22 @@ BeginsWithDigit-digits (byte ∷ word) some digits =
 abbrev is_plain_byte : ℕ → Bool
 is_plain_byte byte = not (is_blank byte) && not (byte == 10)
 
--- A word of up to ten bytes, which part neither words nor lines.
+-- A word of up to sixteen bytes, which part neither words nor lines.
 pub record IsPlainWord (word : List ℕ) : Type 0 where
   pub some : is_some_text word ≡ true
   pub bytes : list_all is_plain_byte word ≡ true
-  pub short : length word ≤ 10
+  pub short : length word ≤ 16
 
 -- the test of such a word
 abbrev pub is_plain_word : List ℕ → Bool
-is_plain_word word = is_some_text word && (list_all is_plain_byte word && nat_le (length word) 10)
+is_plain_word word = is_some_text word && (list_all is_plain_byte word && nat_le (length word) 16)
 
 -- a word that passes is plain, as every name of a script
 pub plain_name : {word : List ℕ} → is_plain_word word ≡ true → IsPlainWord word
 plain_name {word} passes =
     let parts = and_parts (is_some_text word) _ passes in
-    let others = and_parts (list_all is_plain_byte word) (nat_le (length word) 10) parts.1 in
-    record { some = parts.0; bytes = others.0; short = leb-true (length word) 10 others.1 }
+    let others = and_parts (list_all is_plain_byte word) (nat_le (length word) 16) parts.1 in
+    record { some = parts.0; bytes = others.0; short = leb-true (length word) 16 others.1 }
 
 -- a digit is no blank and no line feed
 is_plain_byte-digit : (byte : ℕ) → is_ascii_digit byte ≡ true → is_plain_byte byte ≡ true
@@ -118,14 +118,14 @@ list_all-weaker strong weak each (byte ∷ bytes) all =
 -- ---- numbers of 32 bits
 
 module _ (number : ℕ) (small : number < 2 ^ 32) where
-  digits_are : IsDigitsOf number (decimal number)
+  pub digits_are : IsDigitsOf number (decimal number)
   digits_are = IsDigitsOf-decimal number (omega (arith, small))
 
   digits_some : 0 < length (decimal number)
   digits_some = decimal_nonempty number (omega (arith, small))
 
   -- there are at most ten digits
-  digits_few : length (decimal number) ≤ 10
+  pub digits_few : length (decimal number) ≤ 10
   digits_few = length-decimal-le 10 number (omega arith) (omega (arith, small)) (omega (arith, small))
 
   begins_with_digit : BeginsWithDigit (decimal number)
@@ -141,7 +141,7 @@ module _ (number : ℕ) (small : number < 2 ^ 32) where
   IsPlainWord-decimal = record {
     some = begins_with_digit.some;
     bytes = list_all-weaker is_ascii_digit is_plain_byte is_plain_byte-digit (decimal number) digits_are.0;
-    short = digits_few;
+    short = omega (arith, digits_few);
   }
 
   is_number-decimal : is_number (decimal number) ≡ true
@@ -161,6 +161,17 @@ module _ (number : ℕ) (small : number < 2 ^ 32) where
       and_from (nat_le limits.least number) (nat_le number limits.greatest)
       (le-leb limits.least number within.0) (le-leb number limits.greatest within.1) in
       rw (is_number-decimal, digits_are.1, is) refl
+
+-- two plain words with a dot between them are one, where they are short enough
+pub IsPlainWord-dotted : (first second : List ℕ) → IsPlainWord first → IsPlainWord second
+    → length first + length second ≤ 15 → IsPlainWord (first ++ 46 ∷ second)
+IsPlainWord-dotted [] second plain other few = absurd (false≢true plain.some)
+IsPlainWord-dotted (byte ∷ first) second plain other few = record {
+  some = refl;
+  bytes = list_all-append is_plain_byte (byte ∷ first) (46 ∷ second)
+      ∙ and_from (list_all is_plain_byte (byte ∷ first)) (list_all is_plain_byte second) plain.bytes other.bytes;
+  short = omega (arith, few, length-append (byte ∷ first) (46 ∷ second));
+}
 
 -- ---- lines
 
@@ -210,25 +221,27 @@ no_line_feeds-spaced (word ∷ next ∷ words) plain =
     All-append (λ byte. (byte == 10) ≡ false) word (32 ∷ behind) (no_line_feeds word plain.0.bytes)
     (All-cons (λ byte. (byte == 10) ≡ false) 32 behind refl (no_line_feeds-spaced (next ∷ words) plain.1))
 
--- words of up to ten bytes, each with a space
-pub length-spaced : (words : List (List ℕ)) → AllByRecursion IsPlainWord words
-    → length (spaced_words words) ≤ 11 * length words
-length-spaced [] plain = omega arith
-length-spaced (word ∷ []) plain = omega (arith, plain.0.short)
-length-spaced (word ∷ next ∷ words) plain =
-    let joined = length-append word (32 ∷ spaced_words (next ∷ words)) in
-    omega (arith, plain.0.short, joined, length-spaced (next ∷ words) plain.1)
+-- how long words are together, each with a space
+abbrev pub letters : List (List ℕ) → ℕ
+letters [] = 0
+letters (word ∷ words) = length word + 1 + letters words
 
--- the same where what the first two have is known
-pub length-spaced_two : (first second : List ℕ) (words : List (List ℕ)) → AllByRecursion IsPlainWord words
-    → length (spaced_words (first ∷ second ∷ words)) ≤ length first + length second + 2 + 11 * length words
-length-spaced_two first second [] plain =
-    let joined = length-append first (32 ∷ second) in
-    omega (arith, joined)
-length-spaced_two first second (word ∷ words) plain =
-    let joined = length-append first (32 ∷ spaced_words (second ∷ word ∷ words)) in
-    let behind = length-append second (32 ∷ spaced_words (word ∷ words)) in
-    omega (arith, joined, behind, length-spaced (word ∷ words) plain)
+pub letters-append : (words others : List (List ℕ)) → letters (words ++ others) ≡ letters words + letters others
+letters-append [] others = omega arith
+letters-append (word ∷ words) others = omega (arith, letters-append words others)
+
+-- so long is their line at most
+pub length-spaced : (words : List (List ℕ)) → length (spaced_words words) ≤ letters words
+length-spaced [] = omega arith
+length-spaced (word ∷ []) = omega arith
+length-spaced (word ∷ next ∷ words) =
+    let joined = length-append word (32 ∷ spaced_words (next ∷ words)) in
+    omega (arith, joined, length-spaced (next ∷ words))
+
+-- words of up to sixteen bytes, each with a space
+pub letters-plain : (words : List (List ℕ)) → AllByRecursion IsPlainWord words → letters words ≤ 17 * length words
+letters-plain [] plain = omega arith
+letters-plain (word ∷ words) plain = omega (arith, plain.0.short, letters-plain words plain.1)
 
 -- a plain line is the first line of a text
 pub lines_of-plain : (words : List (List ℕ)) (text : List ℕ) → AllByRecursion IsPlainWord words

@@ -1,15 +1,16 @@
 -- What holds of each line below the table line that is read: it holds of what a command line asks and of what a schedule
 -- line says, and so, by induction over the lines, of all commands of a script and of its schedule; and there are no more
 -- of both than a script may have lines.
-use Rattle.std.proofs.Common.{◌≡◌, ℕ, ◌+◌, ◌<◌, ◌≤◌, Bool, true, false, not, cond, Result, Ok, Err, List, [], ◌∷◌, length, codes, refl, arith}
-use Rattle.std.specs.Prelude.{IfOk, nat_lt}
+use Rattle.std.proofs.Common.{◌≡◌, ℕ, ◌+◌, ◌<◌, ◌≤◌, ◌==◌, ◌⊎◌, Bool, true, false, not, cond, Option, Some, None, Result, Ok, Err, List, [], ◌∷◌, length, codes, refl, inl, inr, arith}
+use Rattle.std.specs.Prelude.{IfOk, nat_le, nat_lt, take, drop}
 use Rattle.std.specs.List.{AllByRecursion}
-use Rattle.std.proofs.lemmas.Bool.{ltb-false}
+use Rattle.std.proofs.lemmas.Bool.{cases_Bool, and_parts, leb-true, ltb-false, eqb-true}
 use Rattle.std.proofs.lemmas.Result.{IfOk-at_ok}
 use Rattle.rht_words.specs.declared.config.Config.{Config}
 use Rattle.rht_words.specs.declared.config.Kind.{Kind}
 use Rattle.rht_words.specs.declared.config.Kind.TheVariants.{Single, Listed}
 use Rattle.rht_words.specs.declared.limits.Limits.{Limits}
+use Rattle.rht_words.specs.Limits.{IsWithinLimits}
 use Rattle.rht_model.specs.declared.history.Call.{Call}
 use Rattle.rht_model.specs.declared.history.Call.TheVariants.{Bind, Find, All, Release, Rebind, Work, Tidy, Count}
 use Rattle.rht_script.specs.declared.script.TableLine.{TableLine}
@@ -22,9 +23,10 @@ use Rattle.rht_script.specs.declared.cause.Cause.{Cause}
 use Rattle.rht_script.specs.declared.cause.Cause.TheVariants.{BadNumber, OutOfRange, UnknownWord, TooManyLines, LineTooLong}
 use Rattle.rht_script.specs.Grammar.{most_bytes, most_lines, most_in_line, at_line, words_at, lines_from, Said, said_from, reading_of}
 use Rattle.rht_script.specs.TableLines.{table_of}
-use Rattle.rht_script.specs.CommandLines.{port_limits, owner_limits, worker_limits, number_first, end_of, bind_of, find_of, all_of, release_of, of_single, rebind_of, bare_of, whole_walk, call_of, begins_schedule, command_of}
+use Rattle.rht_script.specs.CommandLines.{owner_limits, worker_limits, number_first, port_first, end_of, bind_of, find_of, all_of, release_of, of_single, rebind_of, bare_of, whole_walk, call_of, begins_schedule, command_of}
 use Rattle.rht_script.specs.ScheduleLines.{event_limits, events_of}
 use Rattle.rht_script.specs.ScriptLines.{scheduled, line_of, commands_among, schedule_among}
+use Rattle.rht_script.specs.PortWords.{net_and_number, IsPortIn, net_limits, port_number_limits, cut_of, port_in, port_of_parts, port_of_word}
 use Rattle.rht_script.specs.Spelling.{◌>>=◌, is_word, is_number, value_of, is_within, number_of, lines_of, words_of, is_skipped}
 
 -- ---- what holds of a value holds on the way to it
@@ -66,7 +68,49 @@ number_within limits word =
     by_test false true is = is
     by_test false false is = tt
 
--- the number that the next word stands for is too
+-- the test of limits, as a fact
+pub IsWithinLimits-test : (limits : Limits) (number : ℕ) → is_within limits number ≡ true
+    → IsWithinLimits limits number
+IsWithinLimits-test limits number within =
+    let parts = and_parts (nat_le limits.least number) (nat_le number limits.greatest) within in
+    (leb-true limits.least number parts.0, leb-true number limits.greatest parts.1)
+
+-- A port that is read is one that scripts of this form can name: only in form 2 is a word cut, and its net any but 0.
+module _ (form : ℕ) where
+  in_net : (net : ℕ) (word : List ℕ) → net ≤ 65535 → (form ≡ net_and_number) ⊎ (net ≡ 0)
+      → IfOk (port_in net word) (IsPortIn form)
+  in_net net word small either =
+      IfOk-then (λ number. is_within port_number_limits number ≡ true) (IsPortIn form)
+      (number_of port_number_limits word) _ (number_within port_number_limits word) (λ number within.
+      let few = (IsWithinLimits-test port_number_limits number within).1 in
+      elim either [
+        | inl two ↦ (omega (arith, small, few), inl two)
+        | inr none ↦ (omega (arith, small, few), inr (omega (arith, none, few)))
+      ])
+
+  of_parts : form ≡ net_and_number → (cut : Option ℕ) (word : List ℕ)
+      → IfOk (port_of_parts cut word) (IsPortIn form)
+  of_parts two None word = in_net 0 word (omega arith) (inl two)
+  of_parts two (Some dot) word =
+      IfOk-then (λ net. is_within net_limits net ≡ true) (IsPortIn form)
+      (number_of net_limits (take dot word)) _ (number_within net_limits (take dot word)) (λ net within.
+      in_net net (drop (dot + 1) word) (IsWithinLimits-test net_limits net within).1 (inl two))
+
+  port_named : (word : List ℕ) → IfOk (port_of_word form word) (IsPortIn form)
+  unfolding port_of_word
+  port_named word = elim (cases_Bool (form == net_and_number)) [
+    | inl two ↦ of_parts (eqb-true form net_and_number two) (cut_of form word) word
+    | inr other ↦ rw other (in_net 0 word (omega arith) (inr refl))
+  ]
+
+  -- so is the port that the next word stands for
+  first_named : (words : List (List ℕ)) → IfOk (port_first form words) (λ read. IsPortIn form read.0)
+  first_named [] = tt
+  first_named (word ∷ words) =
+      IfOk-then (IsPortIn form) (λ (read : ℕ × List (List ℕ)). IsPortIn form read.0) (port_of_word form word) _
+      (port_named word) (λ port named. named)
+
+-- the number that the next word stands for is within its limits
 first_within : (limits : Limits) (words : List (List ℕ))
     → IfOk (number_first limits words) (λ read. is_within limits read.0 ≡ true)
 first_within limits [] = tt
@@ -75,21 +119,18 @@ first_within limits (word ∷ words) =
     (λ (read : ℕ × List (List ℕ)). is_within limits read.0 ≡ true)
     (number_of limits word) _ (number_within limits word) (λ number within. within)
 
--- the port, or the owner, is within its limits
-abbrev IsPort : ℕ → Type 0
-IsPort port = is_within port_limits port ≡ true
-
+-- the owner is within its limits
 abbrev IsOwner : ℕ → Type 0
 IsOwner owner = is_within owner_limits owner ≡ true
 
 module _ (Q : Call → Type 0) where
   -- what holds behind a port that is read, and behind an owner
-  behind_port : (words : List (List ℕ)) (next : ℕ × List (List ℕ) → Result Call Cause)
-      → ((read : ℕ × List (List ℕ)) → IsPort read.0 → IfOk (next read) Q)
-      → IfOk (number_first port_limits words >>= next) Q
-  behind_port words next holds =
-      IfOk-then (λ (read : ℕ × List (List ℕ)). IsPort read.0) Q (number_first port_limits words) next
-      (first_within port_limits words) holds
+  behind_port : (form : ℕ) (words : List (List ℕ)) (next : ℕ × List (List ℕ) → Result Call Cause)
+      → ((read : ℕ × List (List ℕ)) → IsPortIn form read.0 → IfOk (next read) Q)
+      → IfOk (port_first form words >>= next) Q
+  behind_port form words next holds =
+      IfOk-then (λ (read : ℕ × List (List ℕ)). IsPortIn form read.0) Q (port_first form words) next
+      (first_named form words) holds
 
   behind_owner : (words : List (List ℕ)) (next : ℕ × List (List ℕ) → Result Call Cause)
       → ((read : ℕ × List (List ℕ)) → IsOwner read.0 → IfOk (next read) Q)
@@ -104,54 +145,54 @@ of_single_holds : (Q : Call → Type 0) (kind : Kind) (call : Call) → (kind �
 of_single_holds Q Single call holds = holds refl
 of_single_holds Q Listed call holds = tt
 
--- It holds of each call that a line can ask of a table of this config, whatever the port and the owners.
-pub record HoldsOfCalls (config : Config) (Q : Call → Type 0) : Type 0 where
-  pub bind : (port owner : ℕ) → IsPort port → IsOwner owner → Q (Bind port owner false)
-  pub find : (port : ℕ) → IsPort port → Q (Find port)
-  pub list : (port : ℕ) → IsPort port → Q (All port)
-  pub release : (port owner : ℕ) → IsPort port → IsOwner owner → Q (Release port owner)
-  pub rebind : (port owner new : ℕ) → IsPort port → IsOwner owner → IsOwner new → config.kind ≡ Single
+-- It holds of each call that a line can ask below this table line, whatever the port and the owners.
+pub record HoldsOfCalls (table : TableLine) (Q : Call → Type 0) : Type 0 where
+  pub bind : (port owner : ℕ) → IsPortIn table.form port → IsOwner owner → Q (Bind port owner false)
+  pub find : (port : ℕ) → IsPortIn table.form port → Q (Find port)
+  pub list : (port : ℕ) → IsPortIn table.form port → Q (All port)
+  pub release : (port owner : ℕ) → IsPortIn table.form port → IsOwner owner → Q (Release port owner)
+  pub rebind : (port owner new : ℕ) → IsPortIn table.form port → IsOwner owner → IsOwner new → table.config.kind ≡ Single
       → Q (Rebind port owner new)
-  pub walk : Q (whole_walk config)
+  pub walk : Q (whole_walk table.config)
   pub work : Q Work
   pub tidy : Q Tidy
   pub count : Q Count
 
-module _ (config : Config) (Q : Call → Type 0) (holds : HoldsOfCalls config Q) where
-  bind_holds : (words : List (List ℕ)) → IfOk (bind_of words) Q
+module _ (table : TableLine) (Q : Call → Type 0) (holds : HoldsOfCalls table Q) where
+  bind_holds : (words : List (List ℕ)) → IfOk (bind_of table.form words) Q
   unfolding bind_of
   bind_holds words =
-      behind_port Q words _ (λ port is_port.
+      behind_port Q table.form words _ (λ port is_port.
       behind_owner Q port.1 _ (λ owner is_owner.
       IfOk-after Q (end_of owner.1) _ (λ end. holds.bind port.0 owner.0 is_port is_owner)))
 
-  find_holds : (words : List (List ℕ)) → IfOk (find_of words) Q
+  find_holds : (words : List (List ℕ)) → IfOk (find_of table.form words) Q
   unfolding find_of
   find_holds words =
-      behind_port Q words _ (λ port is_port.
+      behind_port Q table.form words _ (λ port is_port.
       IfOk-after Q (end_of port.1) _ (λ end. holds.find port.0 is_port))
 
-  all_holds : (words : List (List ℕ)) → IfOk (all_of words) Q
+  all_holds : (words : List (List ℕ)) → IfOk (all_of table.form words) Q
   unfolding all_of
   all_holds words =
-      behind_port Q words _ (λ port is_port.
+      behind_port Q table.form words _ (λ port is_port.
       IfOk-after Q (end_of port.1) _ (λ end. holds.list port.0 is_port))
 
-  release_holds : (words : List (List ℕ)) → IfOk (release_of words) Q
+  release_holds : (words : List (List ℕ)) → IfOk (release_of table.form words) Q
   unfolding release_of
   release_holds words =
-      behind_port Q words _ (λ port is_port.
+      behind_port Q table.form words _ (λ port is_port.
       behind_owner Q port.1 _ (λ owner is_owner.
       IfOk-after Q (end_of owner.1) _ (λ end. holds.release port.0 owner.0 is_port is_owner)))
 
-  rebind_holds : (words : List (List ℕ)) → IfOk (rebind_of config.kind words) Q
+  rebind_holds : (words : List (List ℕ)) → IfOk (rebind_of table.form table.config.kind words) Q
   unfolding rebind_of
   rebind_holds words =
-      behind_port Q words _ (λ port is_port.
+      behind_port Q table.form words _ (λ port is_port.
       behind_owner Q port.1 _ (λ owner is_owner.
       behind_owner Q owner.1 _ (λ new is_new.
       IfOk-after Q (end_of new.1) _ (λ end.
-      of_single_holds Q config.kind (Rebind port.0 owner.0 new.0)
+      of_single_holds Q table.config.kind (Rebind port.0 owner.0 new.0)
       (holds.rebind port.0 owner.0 new.0 is_port is_owner is_new)))))
 
   bare_holds : (call : Call) → Q call → (words : List (List ℕ)) → IfOk (bare_of call words) Q
@@ -159,7 +200,7 @@ module _ (config : Config) (Q : Call → Type 0) (holds : HoldsOfCalls config Q)
   bare_holds call so words = IfOk-after Q (end_of words) _ (λ end. so)
 
   -- what holds of each call that can be written holds of what a verb asks
-  pub call_holds : (words : List (List ℕ)) → IfOk (call_of config words) Q
+  pub call_holds : (words : List (List ℕ)) → IfOk (call_of table words) Q
   unfolding call_of
   call_holds [] = tt
   call_holds (verb ∷ words) =
@@ -168,7 +209,7 @@ module _ (config : Config) (Q : Call → Type 0) (holds : HoldsOfCalls config Q)
       (IfOk-cond Q (is_word verb (codes "all")) _ _ (all_holds words)
       (IfOk-cond Q (is_word verb (codes "release")) _ _ (release_holds words)
       (IfOk-cond Q (is_word verb (codes "rebind")) _ _ (rebind_holds words)
-      (IfOk-cond Q (is_word verb (codes "walk")) _ _ (bare_holds (whole_walk config) holds.walk words)
+      (IfOk-cond Q (is_word verb (codes "walk")) _ _ (bare_holds (whole_walk table.config) holds.walk words)
       (IfOk-cond Q (is_word verb (codes "work")) _ _ (bare_holds Work holds.work words)
       (IfOk-cond Q (is_word verb (codes "tidy")) _ _ (bare_holds Tidy holds.tidy words)
       (IfOk-cond Q (is_word verb (codes "count")) _ (Err UnknownWord) (bare_holds Count holds.count words) tt))))))))
@@ -176,7 +217,7 @@ module _ (config : Config) (Q : Call → Type 0) (holds : HoldsOfCalls config Q)
 module _ (P : ℕ × Call → Type 0) (Q : Call → Type 0) (table : TableLine)
     (both : (worker : ℕ) (call : Call) → is_within (worker_limits table.config) worker ≡ true → Q call
     → P (worker, call))
-    (each : (words : List (List ℕ)) → IfOk (call_of table.config words) Q) where
+    (each : (words : List (List ℕ)) → IfOk (call_of table words) Q) where
   -- what holds of a worker's calls holds of a command line
   pub command_holds : (words : List (List ℕ)) → IfOk (command_of table words) P
   unfolding command_of
@@ -186,7 +227,7 @@ module _ (P : ℕ × Call → Type 0) (Q : Call → Type 0) (table : TableLine)
       IfOk-cond P (begins_schedule worker) (Err UnknownWord) _ tt
       (IfOk-then (λ number. is_within limits number ≡ true) P (number_of limits worker) _
       (number_within limits worker) (λ number within.
-      IfOk-then Q P (call_of table.config words) _ (each words) (λ call holds. both number call within holds)))
+      IfOk-then Q P (call_of table words) _ (each words) (λ call holds. both number call within holds)))
 
 -- ---- a schedule line
 
@@ -309,13 +350,13 @@ module _ (P : ℕ × Call → Type 0) (Q : Sched → Type 0) where
 
 -- What is said has such commands and such a schedule, and no more of both than a script may have lines below the table
 -- line.
-pub record AreSaid (P : Config → ℕ × Call → Type 0) (Q : Config → Sched → Type 0) (said : Said) : Type 0 where
-  pub commands : AllByRecursion (P said.config) said.commands
+pub record AreSaid (P : ℕ → Config → ℕ × Call → Type 0) (Q : Config → Sched → Type 0) (said : Said) : Type 0 where
+  pub commands : AllByRecursion (P said.form said.config) said.commands
   pub schedule : AllByRecursion (Q said.config) said.schedule
   pub few : length said.commands + length said.schedule < most_lines
 
-module _ (P : Config → ℕ × Call → Type 0) (Q : Config → Sched → Type 0)
-    (command : (table : TableLine) (words : List (List ℕ)) → IfOk (command_of table words) (P table.config))
+module _ (P : ℕ → Config → ℕ × Call → Type 0) (Q : Config → Sched → Type 0)
+    (command : (table : TableLine) (words : List (List ℕ)) → IfOk (command_of table words) (P table.form table.config))
     (schedule : (config : Config) → HoldsOfSchedule config (Q config)) where
   -- By induction over the lines up to the table line.
   said_hold : (number : ℕ) (lines : List (List ℕ)) → 1 ≤ number → number ≤ 1000001
@@ -329,7 +370,7 @@ module _ (P : Config → ℕ × Call → Type 0) (Q : Config → Sched → Type 
       IfOk-cond (AreSaid P Q) (is_skipped words) (said_from (number + 1) lines) _
       (said_hold (number + 1) lines (omega arith) (omega (arith, here)))
       (IfOk-after (AreSaid P Q) (at_line number (table_of words)) _ (λ table.
-      let Commands = P table.config in
+      let Commands = P table.form table.config in
       let Schedules = Q table.config in
       IfOk-then (AreLines (HoldsOfLine Commands Schedules) (number + 1)) (AreSaid P Q)
       (lines_from (number + 1) table lines) _

@@ -1,9 +1,9 @@
 -- Whatever is read, today's words can say. Each number of an option is read within its limits, so the options are
 -- allowed, and where their first table has room their config is settled. Each command is read with its worker, port and
 -- owner within their limits, and each line of the schedule with its worker and its number (`ReadLines`).
-use Rattle.std.proofs.Common.{◌≡◌, ℕ, ◌+◌, ◌*◌, Bool, true, false, not, ◌&&◌, cond, Result, Ok, Err, List, [], ◌∷◌, length, codes, refl, ap, ◌∙◌, arith}
-use Rattle.std.specs.Prelude.{IfOk, nat_le, nat_lt}
-use Rattle.std.proofs.lemmas.Bool.{le-leb, leb-true, eq-eqb, and_from, and_parts}
+use Rattle.std.proofs.Common.{◌≡◌, ℕ, ◌+◌, ◌*◌, ◌^◌, ◌==◌, Bool, true, false, not, ◌&&◌, cond, Option, Some, None, inl, inr, Result, Ok, Err, List, [], ◌∷◌, length, codes, refl, ap, ◌∙◌, arith}
+use Rattle.std.specs.Prelude.{IfOk, IfSome, unwrap_or, nat_le, nat_lt}
+use Rattle.std.proofs.lemmas.Bool.{le-leb, leb-true, lt-ltb, eq-eqb, and_from, and_parts, or_right}
 use Rattle.std.proofs.lemmas.List.Elements.{All-from_recursion, All-weaker}
 use Rattle.std.proofs.lemmas.List.Sums.{list_all-from_AllPass}
 use Rattle.std.proofs.lemmas.Result.{IfOk-at_ok, IfOk-weaker}
@@ -11,8 +11,10 @@ use Rattle.rht_words.specs.declared.config.Config.{Config}
 use Rattle.rht_words.specs.declared.config.Kind.{Kind}
 use Rattle.rht_words.specs.declared.limits.Limits.{Limits}
 use Rattle.rht_words.specs.Limits.{IsWithinLimits, node_limits, hint_limits, min_limits, max_limits, page_limits, caller_limits, seed_limits, rewalk_limits, page_words}
+use Rattle.rht_words.specs.Ports.{net_of}
 use Rattle.rht_words.specs.Settled.{IsSettled}
 use Rattle.rht_words.specs.Sizes.{first_size}
+use Rattle.rht_model.specs.Answers.{port_of}
 use Rattle.rht_model.specs.declared.history.Call.{Call}
 use Rattle.rht_model.specs.declared.history.Call.TheVariants.{Bind, Find, All as ListAll, Release, Rebind, Walk, Work, Tidy, Count}
 use Rattle.rht_script.specs.declared.script.Script.{Script}
@@ -22,29 +24,21 @@ use Rattle.rht_script.specs.declared.script.Sched.TheVariants.{Step, Skip, Finis
 use Rattle.rht_script.specs.declared.cause.Cause.{Cause}
 use Rattle.rht_script.specs.declared.cause.Cause.TheVariants.{NoTableLine, UnknownWord, OptionsDisagree}
 use Rattle.rht_script.specs.declared.options.Setting.{Setting}
-use Rattle.rht_script.specs.declared.options.Setting.TheVariants.{Nodes, Hint, Min, Max, Pages, Workers, Seed, Rewalks}
+use Rattle.rht_script.specs.declared.options.Setting.TheVariants.{Nodes, Hint, Min, Max, Pages, Workers, Seed, Rewalks, Form}
 use Rattle.rht_script.specs.declared.options.Options.{Options}
 use Rattle.rht_script.specs.Spelling.{is_word, is_within, number_of, lines_of, is_skipped}
-use Rattle.rht_script.specs.TableLines.{one_number, numbered, kind_of, hash_of, switch_of, auto_of, setting_of, no_options, with_setting, options_from, configured, sizes_agree, has_room, config_of, table_of}
-use Rattle.rht_script.specs.CommandLines.{port_limits, owner_limits, worker_limits, whole_walk, command_of}
+use Rattle.rht_script.specs.TableLines.{numbered, kind_of, hash_of, switch_of, auto_of, setting_of, no_options, with_setting, options_from, configured, sizes_agree, has_room, config_of, table_of}
+use Rattle.rht_script.specs.CommandLines.{owner_limits, worker_limits, whole_walk, command_of}
+use Rattle.rht_script.specs.PortWords.{one_number, net_and_number, form_limits, IsForm, IsPortIn, is_port_in}
 use Rattle.rht_script.specs.ScheduleLines.{event_limits}
 use Rattle.rht_script.specs.Grammar.{most_bytes, coded, at_line, words_at, Said, lines_from, said_from, reading_of}
 use Rattle.rht_script.specs.Allowed.{IsAllowed, AreAllowed}
 use Rattle.rht_script.specs.Plain.{IsSayableCall, IsSayableCommand, IsSayableSched, IsSayable}
 use Rattle.rht_script.specs.Reading.{said_by}
 use Rattle.rht_script.specs.Sound.{is_single, is_sound_call, has_sound_numbers, is_sound_command, is_sound_line, IsSoundScript}
-use Rattle.rht_script.specs.Laws.{SaysSayable}
+use Rattle.rht_script.specs.Laws.{PlainPorts, SaysSayable}
 use Rattle.rht_script.proofs.ConfigLemmas.{IsSettled-configured}
-use Rattle.rht_script.proofs.ReadLines.{IfOk-then, IfOk-after, IfOk-cond, IfOk-at_line, number_within, call_holds, command_holds, AreEvents, HoldsOfSchedule, reading_holds}
-
--- ---- numbers
-
--- the test of limits, as a fact
-IsWithinLimits-test : (limits : Limits) (number : ℕ) → is_within limits number ≡ true
-    → IsWithinLimits limits number
-IsWithinLimits-test limits number within =
-    let parts = and_parts (nat_le limits.least number) (nat_le number limits.greatest) within in
-    (leb-true limits.least number parts.0, leb-true number limits.greatest parts.1)
+use Rattle.rht_script.proofs.ReadLines.{IfOk-then, IfOk-after, IfOk-cond, IfOk-at_line, number_within, IsWithinLimits-test, call_holds, command_holds, AreEvents, HoldsOfSchedule, reading_holds}
 
 -- ---- options
 
@@ -76,34 +70,38 @@ module _ (value : List ℕ) where
       (numbered_allowed Seed seed_limits (λ number within. within))
       (IfOk-cond IsAllowed (is_word name (codes "rewalks")) _ _
       (numbered_allowed Rewalks rewalk_limits (λ number within. within))
+      (IfOk-cond IsAllowed (is_word name (codes "form")) _ _
+      (numbered_allowed Form form_limits (λ number within. within))
       (IfOk-cond IsAllowed (is_word name (codes "hash")) _ _
       (IfOk-after IsAllowed (hash_of value) _ (λ hash. tt))
       (IfOk-cond IsAllowed (is_word name (codes "shrink")) _ _
       (IfOk-after IsAllowed (switch_of value) _ (λ shrink. tt))
       (IfOk-cond IsAllowed (is_word name (codes "work")) _ (Err UnknownWord)
-      (IfOk-after IsAllowed (auto_of value) _ (λ auto. tt)) tt))))))))))
+      (IfOk-after IsAllowed (auto_of value) _ (λ auto. tt)) tt)))))))))))
 
 -- by cases of the setting
 AreAllowed-with : (options : Options) (setting : Setting) → AreAllowed options → IsAllowed setting
     → AreAllowed (with_setting options setting)
 AreAllowed-with options (Nodes number) are is =
-    record { nodes = is; hint = are.hint; min = are.min; max = are.max; pages = are.pages; workers = are.workers; seed = are.seed; rewalks = are.rewalks }
+    record { nodes = is; hint = are.hint; min = are.min; max = are.max; pages = are.pages; workers = are.workers; seed = are.seed; rewalks = are.rewalks; form = are.form }
 AreAllowed-with options (Hint number) are is =
-    record { nodes = are.nodes; hint = is; min = are.min; max = are.max; pages = are.pages; workers = are.workers; seed = are.seed; rewalks = are.rewalks }
+    record { nodes = are.nodes; hint = is; min = are.min; max = are.max; pages = are.pages; workers = are.workers; seed = are.seed; rewalks = are.rewalks; form = are.form }
 AreAllowed-with options (Min number) are is =
-    record { nodes = are.nodes; hint = are.hint; min = is; max = are.max; pages = are.pages; workers = are.workers; seed = are.seed; rewalks = are.rewalks }
+    record { nodes = are.nodes; hint = are.hint; min = is; max = are.max; pages = are.pages; workers = are.workers; seed = are.seed; rewalks = are.rewalks; form = are.form }
 AreAllowed-with options (Max number) are is =
-    record { nodes = are.nodes; hint = are.hint; min = are.min; max = is; pages = are.pages; workers = are.workers; seed = are.seed; rewalks = are.rewalks }
+    record { nodes = are.nodes; hint = are.hint; min = are.min; max = is; pages = are.pages; workers = are.workers; seed = are.seed; rewalks = are.rewalks; form = are.form }
 AreAllowed-with options (Pages number) are is =
-    record { nodes = are.nodes; hint = are.hint; min = are.min; max = are.max; pages = is; workers = are.workers; seed = are.seed; rewalks = are.rewalks }
+    record { nodes = are.nodes; hint = are.hint; min = are.min; max = are.max; pages = is; workers = are.workers; seed = are.seed; rewalks = are.rewalks; form = are.form }
 AreAllowed-with options (Workers number) are is =
-    record { nodes = are.nodes; hint = are.hint; min = are.min; max = are.max; pages = are.pages; workers = is; seed = are.seed; rewalks = are.rewalks }
+    record { nodes = are.nodes; hint = are.hint; min = are.min; max = are.max; pages = are.pages; workers = is; seed = are.seed; rewalks = are.rewalks; form = are.form }
 AreAllowed-with options (Seed number) are is =
-    record { nodes = are.nodes; hint = are.hint; min = are.min; max = are.max; pages = are.pages; workers = are.workers; seed = is; rewalks = are.rewalks }
+    record { nodes = are.nodes; hint = are.hint; min = are.min; max = are.max; pages = are.pages; workers = are.workers; seed = is; rewalks = are.rewalks; form = are.form }
 AreAllowed-with options (Rewalks number) are is =
-    record { nodes = are.nodes; hint = are.hint; min = are.min; max = are.max; pages = are.pages; workers = are.workers; seed = are.seed; rewalks = is }
+    record { nodes = are.nodes; hint = are.hint; min = are.min; max = are.max; pages = are.pages; workers = are.workers; seed = are.seed; rewalks = is; form = are.form }
+AreAllowed-with options (Form number) are is =
+    record { nodes = are.nodes; hint = are.hint; min = are.min; max = are.max; pages = are.pages; workers = are.workers; seed = are.seed; rewalks = are.rewalks; form = is }
 AreAllowed-with options _ are is =
-    record { nodes = are.nodes; hint = are.hint; min = are.min; max = are.max; pages = are.pages; workers = are.workers; seed = are.seed; rewalks = are.rewalks }
+    record { nodes = are.nodes; hint = are.hint; min = are.min; max = are.max; pages = are.pages; workers = are.workers; seed = are.seed; rewalks = are.rewalks; form = are.form }
 
 -- by induction over the words, two at a time
 options_allowed : (options : Options) (words : List (List ℕ)) → AreAllowed options
@@ -116,21 +114,21 @@ options_allowed options (name ∷ value ∷ words) are =
     (AreAllowed-with options setting are is))
 
 no_options_allowed : AreAllowed no_options
-no_options_allowed = record { nodes = tt; hint = tt; min = tt; max = tt; pages = tt; workers = tt; seed = tt; rewalks = tt }
+no_options_allowed = record { nodes = tt; hint = tt; min = tt; max = tt; pages = tt; workers = tt; seed = tt; rewalks = tt; form = tt }
 
 -- ---- the table line
 
 module _ (kind : Kind) (options : Options) (are : AreAllowed options) where
   -- what a table of this kind is opened with
-  abbrev config : Config
-  config = configured kind options
+  abbrev opened : Config
+  opened = configured kind options
 
-  where_agreed : (agreed : Bool) → (sizes_agree config && has_room config) ≡ agreed
-      → IfOk (cond agreed (Ok config) (Err OptionsDisagree)) IsSettled
+  where_agreed : (agreed : Bool) → (sizes_agree opened && has_room opened) ≡ agreed
+      → IfOk (cond agreed (Ok opened) (Err OptionsDisagree)) IsSettled
   unfolding configured
   where_agreed true is =
-      let parts = and_parts (sizes_agree config) (has_room config) is in
-      let room = leb-true (first_size config) (page_words * config.pages) parts.1 in
+      let parts = and_parts (sizes_agree opened) (has_room opened) is in
+      let room = leb-true (first_size opened) (page_words * opened.pages) parts.1 in
       IsSettled-configured kind options are parts.0 room
   where_agreed false is = tt
 
@@ -138,7 +136,7 @@ module _ (kind : Kind) (options : Options) (are : AreAllowed options) where
   unfolding config_of
   config_settled =
       IfOk-cond IsSettled options.twice (Err OptionsDisagree) _ tt
-      (where_agreed (sizes_agree config && has_room config) refl)
+      (where_agreed (sizes_agree opened && has_room opened) refl)
 
 -- what a table line says: a config that a table can be opened with
 abbrev pub IsSettledTable : TableLine → Type 0
@@ -158,26 +156,41 @@ table_settled (table ∷ kind ∷ words) =
     (λ config is. is))))
     tt
 
--- and ports that are one number each
-abbrev pub HasOneNumber : TableLine → Type 0
-HasOneNumber table = table.form ≡ one_number
+-- and a form that there is, where it names one and where it doesn't
+form_or_one : (form : Option ℕ) → IfSome form IsForm → IsForm (unwrap_or form one_number)
+form_or_one None is = (omega arith, omega arith)
+form_or_one (Some form) is = is
 
-pub table_form : (words : List (List ℕ)) → IfOk (table_of words) HasOneNumber
+abbrev pub HasForm : TableLine → Type 0
+HasForm table = IsForm table.form
+
+pub table_form : (words : List (List ℕ)) → IfOk (table_of words) HasForm
 unfolding table_of
 table_form [] = tt
-table_form (table ∷ []) = IfOk-cond HasOneNumber (is_word table (codes "table")) _ (Err NoTableLine) tt tt
+table_form (table ∷ []) = IfOk-cond HasForm (is_word table (codes "table")) _ (Err NoTableLine) tt tt
 table_form (table ∷ kind ∷ words) =
-    IfOk-cond HasOneNumber (is_word table (codes "table")) _ (Err NoTableLine)
-    (IfOk-after HasOneNumber (kind_of kind) _ (λ kind.
-    IfOk-after HasOneNumber (options_from no_options words) _ (λ options.
-    IfOk-after HasOneNumber (config_of kind options) _ (λ config. refl))))
+    IfOk-cond HasForm (is_word table (codes "table")) _ (Err NoTableLine)
+    (IfOk-after HasForm (kind_of kind) _ (λ kind.
+    IfOk-then AreAllowed HasForm (options_from no_options words) _
+    (options_allowed no_options words no_options_allowed) (λ options are.
+    IfOk-after HasForm (config_of kind options) _ (λ config. form_or_one options.form are.form))))
     tt
 
 -- ---- the whole script
 
--- what is said has a config that a table can be opened with, as the table line decides
+-- what is said has a config that a table can be opened with, and a form that there is, as the table line decides
+abbrev IsTableSaid : TableLine → Type 0
+IsTableSaid table = IsSettledTable table × HasForm table
+
 abbrev IsSettledSaid : Said → Type 0
-IsSettledSaid said = IsSettled said.config
+IsSettledSaid said = IsSettled said.config × IsForm said.form
+
+table_said : (words : List (List ℕ)) → IfOk (table_of words) IsTableSaid
+table_said words = both (table_of words) (table_settled words) (table_form words)
+  where
+    both : (read : Result TableLine Cause) → IfOk read IsSettledTable → IfOk read HasForm → IfOk read IsTableSaid
+    both (Ok table) settled form = (settled, form)
+    both (Err cause) settled form = tt
 
 -- By induction over the lines up to the table line.
 said_settled : (number : ℕ) (lines : List (List ℕ)) → IfOk (said_from number lines) IsSettledSaid
@@ -186,26 +199,26 @@ said_settled number (line ∷ lines) =
     IfOk-after IsSettledSaid (at_line number (words_at number line)) _ (λ words.
     IfOk-cond IsSettledSaid (is_skipped words) (said_from (number + 1) lines) _
     (said_settled (number + 1) lines)
-    (IfOk-then IsSettledTable IsSettledSaid (at_line number (table_of words)) _
-    (IfOk-at_line IsSettledTable number (table_of words) (table_settled words)) (λ table is.
+    (IfOk-then IsTableSaid IsSettledSaid (at_line number (table_of words)) _
+    (IfOk-at_line IsTableSaid number (table_of words) (table_said words)) (λ table is.
     IfOk-after IsSettledSaid (lines_from (number + 1) table lines) _ (λ others. is))))
 
 -- each command is one of a worker, and its call has a verb
 pub command_sayable : (table : TableLine) (words : List (List ℕ))
-    → IfOk (command_of table words) (IsSayableCommand table.config)
+    → IfOk (command_of table words) (IsSayableCommand table.form table.config)
 command_sayable table =
-    let port_is = IsWithinLimits-test port_limits in
     let owner_is = IsWithinLimits-test owner_limits in
+    let form = table.form in
     let config = table.config in
-    command_holds (IsSayableCommand config) (IsSayableCall config) table
+    command_holds (IsSayableCommand form config) (IsSayableCall form config) table
     (λ worker call within sayable. (IsWithinLimits-test (worker_limits config) worker within, sayable))
-    (call_holds config (IsSayableCall config) record {
-      bind = λ port owner is_port is_owner. (port_is port is_port, owner_is owner is_owner, refl);
-      find = λ port is_port. port_is port is_port;
-      list = λ port is_port. port_is port is_port;
-      release = λ port owner is_port is_owner. (port_is port is_port, owner_is owner is_owner);
+    (call_holds table (IsSayableCall form config) record {
+      bind = λ port owner is_port is_owner. (is_port, owner_is owner is_owner, refl);
+      find = λ port is_port. is_port;
+      list = λ port is_port. is_port;
+      release = λ port owner is_port is_owner. (is_port, owner_is owner is_owner);
       rebind = λ port owner new is_port is_owner is_new single.
-          (port_is port is_port, owner_is owner is_owner, owner_is new is_new, single);
+          (is_port, owner_is owner is_owner, owner_is new is_new, single);
       walk = refl;
       work = tt;
       tidy = tt;
@@ -232,11 +245,35 @@ says_sayable bytes said read =
     (said_settled 1 lines)) in
     let are = reading_holds IsSayableCommand IsSayableSched command_sayable sched_sayable bytes said read in
     record {
-      config = settled;
-      commands = All-from_recursion (IsSayableCommand said.config) said.commands are.commands;
+      config = settled.0;
+      form = settled.1;
+      commands = All-from_recursion (IsSayableCommand said.form said.config) said.commands are.commands;
       schedule = All-from_recursion (IsSayableSched said.config) said.schedule are.schedule;
       few = are.few;
     }
+
+net_none : (form port : ℕ) → form ≡ one_number → IsPortIn form port → net_of port ≡ 0
+net_none form port one is = elim is.1 [
+  | inl two ↦ absurd (omega (arith, one, two))
+  | inr none ↦ none
+]
+
+-- a call for which there is a verb in form 1 has a port of net 0, if it has one
+plain_port : (form : ℕ) (config : Config) (call : Call) → form ≡ one_number → IsSayableCall form config call
+    → IfSome (port_of call) (λ port. net_of port ≡ 0)
+plain_port form config (Bind port owner once) one sayable = net_none form port one sayable.0
+plain_port form config (Find port) one sayable = net_none form port one sayable
+plain_port form config (ListAll port) one sayable = net_none form port one sayable
+plain_port form config (Release port owner) one sayable = net_none form port one sayable.0
+plain_port form config (Rebind port owner new) one sayable = net_none form port one sayable.0
+plain_port form config _ one sayable = tt
+
+pub plain_ports : PlainPorts
+plain_ports bytes said read one =
+    All-weaker (IsSayableCommand said.form said.config)
+    (λ command. IfSome (port_of command.1) (λ port. net_of port ≡ 0))
+    (λ command sayable. plain_port said.form said.config command.1 one sayable.1)
+    said.commands (says_sayable bytes said read).commands
 
 -- ---- sound scripts
 
@@ -245,18 +282,18 @@ whole_walk-sound : (config : Config) → is_sound_call config (whole_walk config
 whole_walk-sound config = eq-eqb config.nodes config.nodes refl
 
 -- a call for which there is a verb can be run
-is_sound_call-sayable : (config : Config) (call : Call) → IsSayableCall config call
+is_sound_call-sayable : (form : ℕ) (config : Config) (call : Call) → IsSayableCall form config call
     → is_sound_call config call ≡ true
-is_sound_call-sayable config (Bind port owner once) sayable = ap not sayable.2
-is_sound_call-sayable config (Find port) sayable = refl
-is_sound_call-sayable config (ListAll port) sayable = refl
-is_sound_call-sayable config (Release port owner) sayable = refl
-is_sound_call-sayable config (Rebind port owner new) sayable = ap is_single sayable.3
-is_sound_call-sayable config (Walk from limit) sayable =
+is_sound_call-sayable form config (Bind port owner once) sayable = ap not sayable.2
+is_sound_call-sayable form config (Find port) sayable = refl
+is_sound_call-sayable form config (ListAll port) sayable = refl
+is_sound_call-sayable form config (Release port owner) sayable = refl
+is_sound_call-sayable form config (Rebind port owner new) sayable = ap is_single sayable.3
+is_sound_call-sayable form config (Walk from limit) sayable =
     ap (is_sound_call config) sayable ∙ whole_walk-sound config
-is_sound_call-sayable config Work sayable = refl
-is_sound_call-sayable config Tidy sayable = refl
-is_sound_call-sayable config Count sayable = refl
+is_sound_call-sayable form config Work sayable = refl
+is_sound_call-sayable form config Tidy sayable = refl
+is_sound_call-sayable form config Count sayable = refl
 
 -- the test of limits, of what is within them
 is_within-IsWithinLimits : (limits : Limits) (number : ℕ) → IsWithinLimits limits number
@@ -265,11 +302,19 @@ is_within-IsWithinLimits limits number within =
     and_from (nat_le limits.least number) (nat_le number limits.greatest)
     (le-leb limits.least number within.0) (le-leb number limits.greatest within.1)
 
+-- the test of a port of this form
+is_port_in-IsPortIn : (form port : ℕ) → IsPortIn form port → is_port_in form port ≡ true
+is_port_in-IsPortIn form port is =
+    and_from (nat_lt port (2 ^ 48)) _ (lt-ltb port (2 ^ 48) is.0) (elim is.1 [
+      | inl two ↦ rw (eq-eqb form net_and_number two) refl
+      | inr none ↦ or_right (form == net_and_number) (net_of port == 0) (eq-eqb (net_of port) 0 none)
+    ])
+
 -- so are a port and an owner together
-port_and_owner : (port owner : ℕ) → IsWithinLimits port_limits port → IsWithinLimits owner_limits owner
-    → (is_within port_limits port && is_within owner_limits owner) ≡ true
-port_and_owner port owner port_in owner_in =
-    and_from (is_within port_limits port) (is_within owner_limits owner) (is_within-IsWithinLimits port_limits port port_in)
+port_and_owner : (form port owner : ℕ) → IsPortIn form port → IsWithinLimits owner_limits owner
+    → (is_port_in form port && is_within owner_limits owner) ≡ true
+port_and_owner form port owner port_in owner_in =
+    and_from (is_port_in form port) (is_within owner_limits owner) (is_port_in-IsPortIn form port port_in)
     (is_within-IsWithinLimits owner_limits owner owner_in)
 
 -- and a worker's number and a number of events or calls
@@ -282,27 +327,29 @@ both_within config worker number both =
     (is_within-IsWithinLimits event_limits number both.1)
 
 -- the numbers of a call for which there is a verb are within their limits
-has_sound_numbers-sayable : (config : Config) (call : Call) → IsSayableCall config call → has_sound_numbers call ≡ true
-has_sound_numbers-sayable config (Bind port owner once) sayable = port_and_owner port owner sayable.0 sayable.1
-has_sound_numbers-sayable config (Find port) sayable = is_within-IsWithinLimits port_limits port sayable
-has_sound_numbers-sayable config (ListAll port) sayable = is_within-IsWithinLimits port_limits port sayable
-has_sound_numbers-sayable config (Release port owner) sayable = port_and_owner port owner sayable.0 sayable.1
-has_sound_numbers-sayable config (Rebind port owner new) sayable =
-    and_from (is_within port_limits port) (is_within owner_limits owner && is_within owner_limits new)
-    (is_within-IsWithinLimits port_limits port sayable.0)
+has_sound_numbers-sayable : (form : ℕ) (config : Config) (call : Call) → IsSayableCall form config call
+    → has_sound_numbers form call ≡ true
+has_sound_numbers-sayable form config (Bind port owner once) sayable = port_and_owner form port owner sayable.0 sayable.1
+has_sound_numbers-sayable form config (Find port) sayable = is_port_in-IsPortIn form port sayable
+has_sound_numbers-sayable form config (ListAll port) sayable = is_port_in-IsPortIn form port sayable
+has_sound_numbers-sayable form config (Release port owner) sayable = port_and_owner form port owner sayable.0 sayable.1
+has_sound_numbers-sayable form config (Rebind port owner new) sayable =
+    and_from (is_port_in form port) (is_within owner_limits owner && is_within owner_limits new)
+    (is_port_in-IsPortIn form port sayable.0)
     (and_from (is_within owner_limits owner) (is_within owner_limits new)
     (is_within-IsWithinLimits owner_limits owner sayable.1) (is_within-IsWithinLimits owner_limits new sayable.2))
-has_sound_numbers-sayable config _ sayable = refl
+has_sound_numbers-sayable form config _ sayable = refl
 
 -- so a command that can be said is sound
-pub is_sound_command-sayable : (config : Config) (command : ℕ × Call) → IsSayableCommand config command
-    → is_sound_command config command ≡ true
-is_sound_command-sayable config command sayable =
+pub is_sound_command-sayable : (form : ℕ) (config : Config) (command : ℕ × Call) → IsSayableCommand form config command
+    → is_sound_command form config command ≡ true
+is_sound_command-sayable form config command sayable =
     let limits = worker_limits config in
-    and_from (is_within limits command.0) (has_sound_numbers command.1 && is_sound_call config command.1)
+    and_from (is_within limits command.0) (has_sound_numbers form command.1 && is_sound_call config command.1)
     (is_within-IsWithinLimits limits command.0 sayable.0)
-    (and_from (has_sound_numbers command.1) (is_sound_call config command.1) (has_sound_numbers-sayable config command.1 sayable.1)
-    (is_sound_call-sayable config command.1 sayable.1))
+    (and_from (has_sound_numbers form command.1) (is_sound_call config command.1)
+    (has_sound_numbers-sayable form config command.1 sayable.1)
+    (is_sound_call-sayable form config command.1 sayable.1))
 
 -- and so is a line of the schedule
 is_sound_line-sayable : (config : Config) (sched : Sched) → IsSayableSched config sched
@@ -314,15 +361,16 @@ is_sound_line-sayable config (Finish worker number) sayable = both_within config
 -- and so is a script that can be said
 pub IsSoundScript-sayable : (script : Script) → IsSayable (said_by script) → IsSoundScript script
 IsSoundScript-sayable script sayable =
-    let each = All-weaker (IsSayableCommand script.config)
-    (λ command. is_sound_command script.config command ≡ true)
-    (is_sound_command-sayable script.config) script.commands.items sayable.commands in
+    let each = All-weaker (IsSayableCommand script.form script.config)
+    (λ command. is_sound_command script.form script.config command ≡ true)
+    (is_sound_command-sayable script.form script.config) script.commands.items sayable.commands in
     let lines = All-weaker (IsSayableSched script.config) (λ sched. is_sound_line script.config sched ≡ true)
     (is_sound_line-sayable script.config) script.schedule.items sayable.schedule in
     record {
       settled = sayable.config;
+      form = sayable.form;
       few = (let few = sayable.few in omega (arith, script.commands.ok.0));
-      commands = list_all-from_AllPass (is_sound_command script.config) script.commands.items each;
+      commands = list_all-from_AllPass (is_sound_command script.form script.config) script.commands.items each;
       schedule = list_all-from_AllPass (is_sound_line script.config) script.schedule.items lines;
     }
 
@@ -330,10 +378,10 @@ IsSoundScript-sayable script sayable =
 
 -- what a command line says can be run
 pub command_sound : (table : TableLine) (words : List (List ℕ))
-    → IfOk (command_of table words) (λ command. is_sound_command table.config command ≡ true)
+    → IfOk (command_of table words) (λ command. is_sound_command table.form table.config command ≡ true)
 command_sound table words =
-    IfOk-weaker (command_of table words) (IsSayableCommand table.config) _
-    (is_sound_command-sayable table.config) (command_sayable table words)
+    IfOk-weaker (command_of table words) (IsSayableCommand table.form table.config) _
+    (is_sound_command-sayable table.form table.config) (command_sayable table words)
 
 -- what holds of what was read holds with the cause told by its number too
 pub IfOk-coded : {X : Type 0} (P : X → Type 0) (read : Result X Cause) → IfOk read P → IfOk (coded read) P

@@ -5,6 +5,7 @@ use Rattle.std.specs.List.{slice_get}
 use Rattle.std.proofs.lemmas.List.{take_more}
 use Rattle.std.proofs.lemmas.List.Sums.{sum_by-append}
 use Rattle.std.proofs.lemmas.Option.{slice_get_within, get_or_from_slice_get}
+use Rattle.rht_words.specs.Ports.{number_of}
 use Rattle.rht_model.specs.declared.history.Reply.{Reply}
 use Rattle.rht_model.specs.Endings.{Ending}
 use Rattle.rht_model.specs.Listing.{ports_of}
@@ -50,7 +51,7 @@ port_at (pair ∷ pairs) (suc i) port here = port_at pairs i port here
 
 -- one port more was looked at
 pub sum_of_ports-more : (pairs : List (ℕ × List ℕ)) (i port : ℕ) → slice_get (ports_of pairs) i ≡ Some port
-    → sum_of_ports (take (i + 1) pairs) ≡ sum_of_ports (take i pairs) + port
+    → sum_of_ports (take (i + 1) pairs) ≡ sum_of_ports (take i pairs) + number_of port
 sum_of_ports-more pairs i port here =
     let at = port_at pairs i port here in
-    sum_by-more (λ pair. pair.0) pairs i (port, at.0) at.1
+    sum_by-more (λ pair. number_of pair.0) pairs i (port, at.0) at.1

@@ -3,6 +3,7 @@
 -- The tests of `read` have what would take too long here: too many lines, too many bytes, and what competes with these.
 -- They are examples to read beside the definitions; nothing cites them.
 use Rattle.std.proofs.Common.{◌≡◌, ℕ, ◌+◌, Bool, true, false, None, Ok, Err, List, [], ◌∷◌, ◌++◌, map, replicate, codes, refl}
+use Rattle.rht_words.specs.Ports.{port_at}
 use Rattle.rht_words.specs.Settled.{plain_config}
 use Rattle.rht_words.specs.Sizes.{powers, rounded_up}
 use Rattle.rht_words.specs.declared.config.Kind.TheVariants.{Listed}
@@ -16,7 +17,8 @@ use Rattle.rht_script.specs.declared.script.TableLine.{TableLine}
 use Rattle.rht_script.specs.declared.cause.Cause.{Cause}
 use Rattle.rht_script.specs.declared.cause.Cause.TheVariants.{NoTableLine, UnknownWord, BadNumber, OutOfRange, LineTooLong, WrongKind, OptionsDisagree}
 use Rattle.rht_script.specs.Spelling.{lines_of, words_of, number_of}
-use Rattle.rht_script.specs.TableLines.{one_number, setting_of, configured, config_of, table_of}
+use Rattle.rht_script.specs.TableLines.{setting_of, configured, config_of, table_of}
+use Rattle.rht_script.specs.PortWords.{one_number, net_and_number, port_of_word}
 use Rattle.rht_script.specs.CommandLines.{bind_of, find_of, all_of, release_of, rebind_of, bare_of, call_of, command_of}
 use Rattle.rht_script.specs.ScheduleLines.{events_of}
 use Rattle.rht_script.specs.ScriptLines.{line_of}
@@ -24,7 +26,7 @@ use Rattle.rht_script.specs.Grammar.{most_in_line, fault_at, reading_of}
 
 -- the definitions that reading a text computes
 whole_reading : Unit {0}
-unfolding reading_of lines_of words_of number_of table_of setting_of config_of configured rounded_up powers
+unfolding reading_of lines_of words_of number_of port_of_word table_of setting_of config_of configured rounded_up powers
     line_of events_of command_of call_of bind_of find_of all_of release_of rebind_of bare_of
 whole_reading = tt
 
@@ -32,10 +34,16 @@ whole_reading = tt
 abbrev HaveFault : ℕ → Cause → List (List ℕ) → Type 0
 HaveFault line cause texts = map reading_of texts ≡ map (λ text. Err (fault_at line cause)) texts
 
--- the text says this config, whether workers run `work` by themselves, these commands, and this schedule
+-- the text says this config, whether workers run `work` by themselves, these commands, and this schedule, in form 1
 abbrev SaysAll : Bool → List ℕ → Config → List (ℕ × Call) → List Sched → Type 0
 SaysAll auto text config commands schedule =
-    reading_of text ≡ Ok (record { config = config; auto = auto; commands = commands; schedule = schedule })
+    reading_of text ≡ Ok (record {
+      config = config;
+      auto = auto;
+      form = one_number;
+      commands = commands;
+      schedule = schedule;
+    })
 
 -- it says this, and no schedule
 abbrev SaysOf : Bool → List ℕ → Config → List (ℕ × Call) → Type 0
@@ -44,6 +52,21 @@ SaysOf auto text config commands = SaysAll auto text config commands []
 -- workers run `work` by themselves where nothing is said of that
 abbrev Says : List ℕ → Config → List (ℕ × Call) → Type 0
 Says = SaysOf true
+
+-- below a plain table line of form 2 the lines say these commands
+abbrev SaysNets : List ℕ → List (ℕ × Call) → Type 0
+SaysNets lines commands =
+    reading_of (codes "table single form 2\n" ++ lines) ≡ Ok (record {
+      config = plain_config;
+      auto = true;
+      form = net_and_number;
+      commands = commands;
+      schedule = [];
+    })
+
+-- the lines below a plain table line of form 2
+abbrev below_nets : List (List ℕ) → List (List ℕ)
+below_nets lines = map (λ line. codes "table single form 2\n" ++ line) lines
 
 -- the lines below a plain table line
 abbrev below_table : List (List ℕ) → List (List ℕ)
@@ -84,7 +107,8 @@ unknown_words_of_tables : HaveFault 1 UnknownWord (
     ∷ codes "table single work\n" ∷ codes "table single shrink auto\n" ∷ codes "table single shrink 1\n"
     ∷ codes "table single shrinks on\n" ∷ codes "table single Work auto\n"
     ∷ codes "table single hint\n" ∷ codes "table listed nodes\n" ∷ codes "table single max\n"
-    ∷ codes "table single hint 96 97\n" ∷ codes "table single hash 1\n" ∷ [])
+    ∷ codes "table single hint 96 97\n" ∷ codes "table single hash 1\n" ∷ codes "table single form\n"
+    ∷ codes "table single forms 2\n" ∷ codes "table single form 2 net\n" ∷ [])
 unfolding whole_reading
 unknown_words_of_tables = refl
 
@@ -125,7 +149,8 @@ bad_numbers_of_tables : HaveFault 1 BadNumber (
     codes "table single hint x\n" ∷ codes "table single min +4\n"
     ∷ codes "table single pages 0x10\n" ∷ codes "table single seed -1\n"
     ∷ codes "table single rewalks 000000000000000000008\n" ∷ codes "table listed nodes x\n"
-    ∷ codes "table single max x\n" ∷ codes "table single workers two\n" ∷ [])
+    ∷ codes "table single max x\n" ∷ codes "table single workers two\n" ∷ codes "table single form x\n"
+    ∷ codes "table single form 1.2\n" ∷ [])
 unfolding whole_reading
 bad_numbers_of_tables = refl
 
@@ -155,7 +180,8 @@ numbers_out_of_range_of_tables : HaveFault 1 OutOfRange (
     ∷ codes "table single rewalks 256\n" ∷ codes "table single seed 18446744073709551616\n"
     ∷ codes "table single nodes 0\n" ∷ codes "table single nodes 65537\n" ∷ codes "table single max 3\n"
     ∷ codes "table single max 131073\n" ∷ codes "table single workers 0\n"
-    ∷ codes "table single workers 17\n" ∷ [])
+    ∷ codes "table single workers 17\n" ∷ codes "table single form 0\n" ∷ codes "table single form 3\n"
+    ∷ codes "table single form 18446744073709551618\n" ∷ [])
 unfolding whole_reading
 numbers_out_of_range_of_tables = refl
 
@@ -169,6 +195,44 @@ numbers_out_of_range_of_commands : HaveFault 2 OutOfRange (below_table (
     ∷ codes "1 rebind 80 1 4294967296\n" ∷ codes "2 work\n" ∷ []))
 unfolding whole_reading
 numbers_out_of_range_of_commands = refl
+
+-- in form 1, named or not, a port with a net is no number
+nets_in_form_1 : HaveFault 2 BadNumber (below_table (
+    codes "1 find 3.80\n" ∷ codes "1 find 0.80\n" ∷ codes "1 bind 65536.1 100\n" ∷ codes "1 all 3.80\n"
+    ∷ codes "1 release 3.80 100\n" ∷ codes "1 rebind 3.80 1 2\n" ∷ [])
+    ++ codes "table single form 1\n1 find 3.80\n" ∷ [])
+unfolding whole_reading
+nets_in_form_1 = refl
+
+-- In form 2 the word of a port is cut at its first dot, and each part is 1 to 20 digits. An owner is one number.
+bad_numbers_of_nets : HaveFault 2 BadNumber (below_nets (
+    codes "1 find 3.\n" ∷ codes "1 find .3\n" ∷ codes "1 find .\n" ∷ codes "1 find 1.2.3\n" ∷ codes "1 find x.3\n"
+    ∷ codes "1 find 3.x\n" ∷ codes "1 find x\n" ∷ codes "1 find 3:80\n" ∷ codes "1 find 3.-1\n"
+    ∷ codes "1 find 000000000000000000003.80\n" ∷ codes "1 find 3.000000000000000000080\n"
+    ∷ codes "1 bind 3. 100\n" ∷ codes "1 all 3..80\n" ∷ codes "1 release .3 100\n" ∷ codes "1 rebind 3. 1 2\n"
+    ∷ codes "1 bind 3.80 3.100\n" ∷ codes "1.0 find 3.80\n" ∷ []))
+unfolding whole_reading
+bad_numbers_of_nets = refl
+
+-- a net is above the greatest, or a number in it is, or a number alone
+nets_out_of_range : HaveFault 2 OutOfRange (below_nets (
+    codes "1 find 65536.1\n" ∷ codes "1 find 3.4294967296\n" ∷ codes "1 find 4294967296\n"
+    ∷ codes "1 find 18446744073709551616.1\n" ∷ codes "1 find 0.18446744073709551616\n"
+    ∷ codes "1 bind 65536.1 100\n" ∷ codes "1 all 65536.1\n" ∷ codes "1 release 65536.1 100\n"
+    ∷ codes "1 rebind 65536.1 1 2\n" ∷ []))
+unfolding whole_reading
+nets_out_of_range = refl
+
+-- what is wrong with the net comes before what is wrong with the number behind it
+net_before_number : HaveFault 2 OutOfRange (below_nets (
+    codes "1 find 65536.x\n" ∷ codes "1 find 65536.1.2\n" ∷ codes "1 find 65536.\n" ∷ []))
+unfolding whole_reading
+net_before_number = refl
+
+bad_net_before_number : HaveFault 2 BadNumber (below_nets (
+    codes "1 find x.4294967296\n" ∷ codes "1 find .4294967296\n" ∷ []))
+unfolding whole_reading
+bad_net_before_number = refl
 
 -- so is a worker's number in a schedule line, or the other number
 numbers_out_of_range_of_schedules : HaveFault 2 OutOfRange (below_table (
@@ -200,7 +264,8 @@ options_twice : HaveFault 1 OptionsDisagree (
     ∷ codes "table single pages 4 pages 4\n" ∷ codes "table single seed 1 seed 2 seed 3\n"
     ∷ codes "table single rewalks 8 rewalks 8\n" ∷ codes "table single hash low hash low\n"
     ∷ codes "table single workers 2 workers 2\n" ∷ codes "table listed nodes 16 nodes 16\n" ∷ codes "table single max 4 max 4\n"
-    ∷ codes "table single shrink off shrink off\n" ∷ codes "table single work auto shrink on work auto\n" ∷ [])
+    ∷ codes "table single shrink off shrink off\n" ∷ codes "table single work auto shrink on work auto\n"
+    ∷ codes "table single form 1 form 2\n" ∷ codes "table single form 2 form 2\n" ∷ [])
 unfolding whole_reading
 options_twice = refl
 
@@ -472,3 +537,23 @@ blanks : Says (codes "\n# a\n \t\r\n\ttable  single \r\n#b\n\n\t01 find\t0000000
     ((1, Find 4294967295) ∷ [])
 unfolding whole_reading
 blanks = refl
+
+-- ports of three nets in form 2; those of net 0 with it and without it are the same
+nets : SaysNets (codes
+    "1 bind 80 100\n1 bind 3.80 200\n1 bind 0.80 7\n1 find 3.80\n1 find 4.80\n1 release 3.80 200\n1 bind 65535.0 9\n")
+    ((1, Bind 80 100 false) ∷ (1, Bind (port_at 3 80) 200 false) ∷ (1, Bind 80 7 false) ∷ (1, Find (port_at 3 80))
+    ∷ (1, Find (port_at 4 80)) ∷ (1, Release (port_at 3 80) 200) ∷ (1, Bind (port_at 65535 0) 9 false) ∷ [])
+unfolding whole_reading
+nets = refl
+
+-- leading zeros on either side, up to twenty digits, and the greatest port
+long_nets : SaysNets (codes
+    "1 find 007.080\n1 all 00000000000000000007.00000000000000000080\n1 rebind 65535.4294967295 1 2\n")
+    ((1, Find (port_at 7 80)) ∷ (1, All (port_at 7 80)) ∷ (1, Rebind 281474976710655 1 2) ∷ [])
+unfolding whole_reading
+long_nets = refl
+
+-- form 1, as it is where it isn't named
+named_form : Says (codes "table single form 01\n1 find 80\n") plain_config ((1, Find 80) ∷ [])
+unfolding whole_reading
+named_form = refl

@@ -10,11 +10,9 @@ use Rattle.rht_script.specs.declared.script.TableLine.{TableLine}
 use Rattle.rht_script.specs.declared.cause.Cause.{Cause}
 use Rattle.rht_script.specs.declared.cause.Cause.TheVariants.{UnknownWord, WrongKind}
 use Rattle.rht_script.specs.Spelling.{◌>>=◌, is_word, number_of}
+use Rattle.rht_script.specs.PortWords.{port_of_word}
 
--- a port and an owner are any number of 32 bits
-abbrev pub port_limits : Limits
-port_limits = record { least = 0; greatest = 4294967295 }
-
+-- an owner is any number of 32 bits
 abbrev pub owner_limits : Limits
 owner_limits = record { least = 0; greatest = 4294967295 }
 
@@ -25,34 +23,41 @@ number_first limits (word ∷ words) = do
   number ← number_of limits word
   Ok (number, words)
 
+-- the port that the next word stands for in a script of this form, and the words behind it
+abbrev pub port_first : ℕ → List (List ℕ) → Result (ℕ × List (List ℕ)) Cause
+port_first form [] = Err UnknownWord
+port_first form (word ∷ words) = do
+  port ← port_of_word form word
+  Ok (port, words)
+
 -- no word is left over
 abbrev pub end_of : List (List ℕ) → Result (Unit {0}) Cause
 end_of [] = Ok tt
 end_of (word ∷ words) = Err UnknownWord
 
--- what each verb asks with these words
-unfoldable pub bind_of : List (List ℕ) → Result Call Cause
-bind_of words = do
-  port ← number_first port_limits words
+-- what each verb asks with these words, in a script of this form
+unfoldable pub bind_of : ℕ → List (List ℕ) → Result Call Cause
+bind_of form words = do
+  port ← port_first form words
   owner ← number_first owner_limits port.1
   end ← end_of owner.1
   Ok (Bind port.0 owner.0 false)
 
-unfoldable pub find_of : List (List ℕ) → Result Call Cause
-find_of words = do
-  port ← number_first port_limits words
+unfoldable pub find_of : ℕ → List (List ℕ) → Result Call Cause
+find_of form words = do
+  port ← port_first form words
   end ← end_of port.1
   Ok (Find port.0)
 
-unfoldable pub all_of : List (List ℕ) → Result Call Cause
-all_of words = do
-  port ← number_first port_limits words
+unfoldable pub all_of : ℕ → List (List ℕ) → Result Call Cause
+all_of form words = do
+  port ← port_first form words
   end ← end_of port.1
   Ok (All port.0)
 
-unfoldable pub release_of : List (List ℕ) → Result Call Cause
-release_of words = do
-  port ← number_first port_limits words
+unfoldable pub release_of : ℕ → List (List ℕ) → Result Call Cause
+release_of form words = do
+  port ← port_first form words
   owner ← number_first owner_limits port.1
   end ← end_of owner.1
   Ok (Release port.0 owner.0)
@@ -63,9 +68,9 @@ of_single Single call = Ok call
 of_single Listed call = Err WrongKind
 
 -- that the table is of the wrong kind is asked of the whole line, last
-unfoldable pub rebind_of : Kind → List (List ℕ) → Result Call Cause
-rebind_of kind words = do
-  port ← number_first port_limits words
+unfoldable pub rebind_of : ℕ → Kind → List (List ℕ) → Result Call Cause
+rebind_of form kind words = do
+  port ← port_first form words
   owner ← number_first owner_limits port.1
   new ← number_first owner_limits owner.1
   end ← end_of new.1
@@ -81,16 +86,16 @@ bare_of call words = do
 abbrev pub whole_walk : Config → Call
 whole_walk config = Walk None config.nodes
 
--- what a verb asks of a table of this config with the words behind it
-unfoldable pub call_of : Config → List (List ℕ) → Result Call Cause
-call_of config [] = Err UnknownWord
-call_of config (verb ∷ words) =
-    if is_word verb (codes "bind") then bind_of words
-    else if is_word verb (codes "find") then find_of words
-    else if is_word verb (codes "all") then all_of words
-    else if is_word verb (codes "release") then release_of words
-    else if is_word verb (codes "rebind") then rebind_of config.kind words
-    else if is_word verb (codes "walk") then bare_of (whole_walk config) words
+-- what a verb asks below this table line with the words behind it
+unfoldable pub call_of : TableLine → List (List ℕ) → Result Call Cause
+call_of table [] = Err UnknownWord
+call_of table (verb ∷ words) =
+    if is_word verb (codes "bind") then bind_of table.form words
+    else if is_word verb (codes "find") then find_of table.form words
+    else if is_word verb (codes "all") then all_of table.form words
+    else if is_word verb (codes "release") then release_of table.form words
+    else if is_word verb (codes "rebind") then rebind_of table.form table.config.kind words
+    else if is_word verb (codes "walk") then bare_of (whole_walk table.config) words
     else if is_word verb (codes "work") then bare_of Work words
     else if is_word verb (codes "tidy") then bare_of Tidy words
     else if is_word verb (codes "count") then bare_of Count words
@@ -111,5 +116,5 @@ command_of table (worker ∷ words) =
     if begins_schedule worker then Err UnknownWord
     else do
       number ← number_of (worker_limits table.config) worker
-      call ← call_of table.config words
+      call ← call_of table words
       Ok (number, call)

@@ -1,5 +1,5 @@
 -- The script that is made from a number: eight workers go 500 rounds of five commands each, worker by worker.
--- No two workers ask about one port, and nobody binds the port of a round's last command.
+-- No two workers ask about one port, and nobody binds the port of a round's last command. Each port is of net 0.
 use Rattle.std.specs.Prelude.{◌≡◌, ℕ, ◌+◌, ◌*◌, ◌%◌, ◌^◌, ◌<◌, ◌==◌, Bool, true, false, List, [], ◌∷◌, length, count_by}
 use Rattle.std.specs.List.{flat_map, range_with_len}
 use Rattle.rht_words.specs.declared.config.Config.{Config}
@@ -9,6 +9,7 @@ use Rattle.rht_model.specs.declared.history.Call.{Call}
 use Rattle.rht_model.specs.declared.history.Call.TheVariants.{Bind, Find, Release}
 use Rattle.rht_script.specs.Grammar.{Said}
 use Rattle.rht_script.specs.Plain.{IsSayable}
+use Rattle.rht_script.specs.PortWords.{one_number}
 pub use Rattle.rht_model.specs.CallKinds.{is_bind, is_find, is_release}
 
 -- what the table is opened with
@@ -52,6 +53,7 @@ abbrev pub generated_said : ℕ → Said
 generated_said number = record {
   config = generated_config number;
   auto = true;
+  form = one_number;
   commands = generated_commands number;
   schedule = [];
 }

@@ -58,10 +58,11 @@ words_at number line =
     else Ok (words_of line)
 
 -- what a script says: what the table is opened with, whether a worker runs `work` by itself where a reply asks for it,
--- the commands, each with its worker, and the schedule of a replay
+-- how ports are written, the commands, each with its worker, and the schedule of a replay
 pub record Said : Type 0 where
   pub config : Config
   pub auto : Bool
+  pub form : ℕ
   pub commands : List (ℕ × Call)
   pub schedule : List Sched
 
@@ -81,6 +82,7 @@ abbrev pub said_of : TableLine → List ScriptLine → Said
 said_of table lines = record {
   config = table.config;
   auto = table.auto;
+  form = table.form;
   commands = commands_among lines;
   schedule = schedule_among lines;
 }

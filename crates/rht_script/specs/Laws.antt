@@ -1,12 +1,15 @@
 -- What follows from the grammar, in the words of scripts: which lines a fault depends on, that what can be said is read
 -- back as it was, and what a script's meaning doesn't depend on.
-use Rattle.std.specs.Prelude.{◌≡◌, ℕ, ◌+◌, ◌-◌, ◌≤◌, ◌⊎◌, not, Result, Ok, Err, IsOk, All, List, length, map, filter, take}
+use Rattle.std.specs.Prelude.{◌≡◌, ℕ, ◌+◌, ◌-◌, ◌≤◌, ◌⊎◌, not, Result, Ok, Err, IsOk, IfSome, All, List, length, map, filter, take}
+use Rattle.rht_words.specs.Ports.{net_of}
+use Rattle.rht_model.specs.Answers.{port_of}
 use Rattle.rht_script.specs.declared.script.ScriptFault.{ScriptFault}
 use Rattle.rht_script.specs.declared.cause.Cause.TheVariants.{NoTableLine}
 use Rattle.rht_script.specs.Spelling.{lines_of, words_of, is_skipped}
 use Rattle.rht_script.specs.Grammar.{most_bytes, most_lines, most_in_line, fault_at, Said, reading_of}
 use Rattle.rht_script.specs.Reading.{FirstFault}
 use Rattle.rht_script.specs.Plain.{IsSayable, plain_script}
+use Rattle.rht_script.specs.PortWords.{one_number}
 
 -- ---- first faults
 
@@ -48,6 +51,15 @@ ReadsBack =
 -- That says nothing of which inputs say it.
 abbrev pub SaysSayable : Type 0
 SaysSayable = (bytes : List ℕ) (said : Said) → reading_of bytes ≡ Ok said → IsSayable said
+
+-- ---- ports of form 1
+
+-- A script of form 1, as every script is whose table line doesn't name a form, has ports of net 0 alone. That says nothing
+-- of which scripts there are.
+abbrev pub PlainPorts : Type 0
+PlainPorts =
+    (bytes : List ℕ) (said : Said) → reading_of bytes ≡ Ok said → said.form ≡ one_number
+    → All (λ command. IfSome (port_of command.1) (λ port. net_of port ≡ 0)) said.commands
 
 -- ---- what a script's meaning doesn't depend on
 

@@ -10,6 +10,8 @@ pub mod ScheduleLines
 pub mod ScriptLines
 -- bytes as lines, lines as words, and words as numbers
 pub mod Spelling
+-- ports as words: how they are read, and how they are printed
+pub mod PortWords
 -- where a line ends, and where its next word stands
 pub mod Parts
 -- which options have numbers within their limits

@@ -16,32 +16,33 @@ use Rattle.rht_script.specs.declared.script.Sched.TheVariants.{Step, Skip, Finis
 use Rattle.rht_script.specs.declared.script.ScriptLine.{ScriptLine}
 use Rattle.rht_script.specs.declared.script.ScriptLine.TheVariants.{Command, Schedule}
 use Rattle.rht_script.specs.Grammar.{most_lines, Said}
-use Rattle.rht_script.specs.CommandLines.{port_limits, owner_limits, worker_limits, whole_walk}
+use Rattle.rht_script.specs.CommandLines.{owner_limits, worker_limits, whole_walk}
+use Rattle.rht_script.specs.PortWords.{IsForm, IsPortIn, port_text}
 use Rattle.rht_script.specs.ScheduleLines.{event_limits}
 
 -- ---- what can be said
 
--- There is a verb for the call in a table of this config: a bind that is tried until it ends, a look-up, a listing, a
--- release and a rebind, each of any port and owners, a walk over the whole table, the work, a tidying, and a reading of the
--- count. A rebind is in a table of one owner each.
-abbrev pub IsSayableCall : Config → Call → Type 0
-IsSayableCall config (Bind port owner once) =
-    IsWithinLimits port_limits port × IsWithinLimits owner_limits owner × (once ≡ false)
-IsSayableCall config (Find port) = IsWithinLimits port_limits port
-IsSayableCall config (ListAll port) = IsWithinLimits port_limits port
-IsSayableCall config (Release port owner) = IsWithinLimits port_limits port × IsWithinLimits owner_limits owner
-IsSayableCall config (Rebind port owner new) =
-    IsWithinLimits port_limits port × IsWithinLimits owner_limits owner × IsWithinLimits owner_limits new
+-- In scripts of this form there is a verb for the call in a table of this config. A bind, a look-up, a listing, a release and
+-- a rebind are of any port of this form and any owners. A bind is tried until it ends, and a rebind is in a table of one
+-- owner each. A walk goes over the whole table. The work, a tidying and a reading of the count have no numbers.
+abbrev pub IsSayableCall : ℕ → Config → Call → Type 0
+IsSayableCall form config (Bind port owner once) =
+    IsPortIn form port × IsWithinLimits owner_limits owner × (once ≡ false)
+IsSayableCall form config (Find port) = IsPortIn form port
+IsSayableCall form config (ListAll port) = IsPortIn form port
+IsSayableCall form config (Release port owner) = IsPortIn form port × IsWithinLimits owner_limits owner
+IsSayableCall form config (Rebind port owner new) =
+    IsPortIn form port × IsWithinLimits owner_limits owner × IsWithinLimits owner_limits new
     × (config.kind ≡ Single)
-IsSayableCall config (Walk from limit) = Walk from limit ≡ whole_walk config
-IsSayableCall config Work = Unit {0}
-IsSayableCall config Tidy = Unit {0}
-IsSayableCall config Count = Unit {0}
+IsSayableCall form config (Walk from limit) = Walk from limit ≡ whole_walk config
+IsSayableCall form config Work = Unit {0}
+IsSayableCall form config Tidy = Unit {0}
+IsSayableCall form config Count = Unit {0}
 
 -- a command line can say the command: it is one of a worker of the table
-abbrev pub IsSayableCommand : Config → ℕ × Call → Type 0
-IsSayableCommand config command =
-    IsWithinLimits (worker_limits config) command.0 × IsSayableCall config command.1
+abbrev pub IsSayableCommand : ℕ → Config → ℕ × Call → Type 0
+IsSayableCommand form config command =
+    IsWithinLimits (worker_limits config) command.0 × IsSayableCall form config command.1
 
 -- a schedule line can say this: it is one of a worker of the table, with a number of events or calls
 abbrev pub IsSayableSched : Config → Sched → Type 0
@@ -52,11 +53,13 @@ IsSayableSched config (Skip worker number) =
 IsSayableSched config (Finish worker number) =
     IsWithinLimits (worker_limits config) worker × IsWithinLimits event_limits number
 
--- today's words can say this: any config that a table can be opened with, whether workers run `work` by themselves, and
--- commands and a schedule that lines can say, one line each, of which there are fewer than a script may have
+-- Today's words can say this: any config that a table can be opened with, whether workers run `work` by themselves, and how
+-- ports are written. Lines can say the commands and the schedule, one line each, and there are fewer of them than a script
+-- may have.
 pub record IsSayable (said : Said) : Type 0 where
   pub config : IsSettled said.config
-  pub commands : All (IsSayableCommand said.config) said.commands
+  pub form : IsForm said.form
+  pub commands : All (IsSayableCommand said.form said.config) said.commands
   pub schedule : All (IsSayableSched said.config) said.schedule
   pub few : length said.commands + length said.schedule < most_lines
 
@@ -84,24 +87,26 @@ switch_word on = if on then codes "on" else codes "off"
 abbrev pub auto_word : Bool → List ℕ
 auto_word auto = if auto then codes "auto" else codes "manual"
 
--- the words of the table line of a config, and of whether workers run `work` by themselves: every option
-abbrev pub table_words : Config → Bool → List (List ℕ)
-table_words config auto =
+-- the words of the table line of a config, of whether workers run `work` by themselves, and of how ports are written: every
+-- option
+abbrev pub table_words : Config → Bool → ℕ → List (List ℕ)
+table_words config auto form =
     codes "table" ∷ kind_word config.kind ∷ codes "hash" ∷ hash_word config.hash
     ∷ codes "shrink" ∷ switch_word config.shrink ∷ codes "work" ∷ auto_word auto
+    ∷ codes "form" ∷ decimal form
     ∷ codes "nodes" ∷ decimal config.nodes ∷ codes "min" ∷ decimal config.min
     ∷ codes "pages" ∷ decimal config.pages ∷ codes "workers" ∷ decimal config.callers
     ∷ codes "seed" ∷ decimal config.seed ∷ codes "rewalks" ∷ decimal config.rewalks
     ∷ (number_or_none (codes "hint") config.hint ++ number_or_none (codes "max") config.max)
 
--- the words of a call: its verb and its numbers
+-- the words of a call: its verb, its port as it is printed, and its other numbers
 abbrev pub call_words : Call → List (List ℕ)
-call_words (Bind port owner once) = codes "bind" ∷ decimal port ∷ decimal owner ∷ []
-call_words (Find port) = codes "find" ∷ decimal port ∷ []
-call_words (ListAll port) = codes "all" ∷ decimal port ∷ []
-call_words (Release port owner) = codes "release" ∷ decimal port ∷ decimal owner ∷ []
+call_words (Bind port owner once) = codes "bind" ∷ port_text port ∷ decimal owner ∷ []
+call_words (Find port) = codes "find" ∷ port_text port ∷ []
+call_words (ListAll port) = codes "all" ∷ port_text port ∷ []
+call_words (Release port owner) = codes "release" ∷ port_text port ∷ decimal owner ∷ []
 call_words (Rebind port owner new) =
-    codes "rebind" ∷ decimal port ∷ decimal owner ∷ decimal new ∷ []
+    codes "rebind" ∷ port_text port ∷ decimal owner ∷ decimal new ∷ []
 call_words (Walk from limit) = codes "walk" ∷ []
 call_words Work = codes "work" ∷ []
 call_words Tidy = codes "tidy" ∷ []
@@ -133,5 +138,5 @@ plain_line words = join_with_byte 32 words ++ codes "\n"
 -- a script that says this
 unfoldable pub plain_script : Said → List ℕ
 plain_script said =
-    plain_line (table_words said.config said.auto) ++ flat_map (λ line. plain_line (line_words line))
+    plain_line (table_words said.config said.auto said.form) ++ flat_map (λ line. plain_line (line_words line))
     (plain_order said)

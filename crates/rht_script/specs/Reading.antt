@@ -11,6 +11,7 @@ abbrev pub said_by : Script → Said
 said_by script = record {
   config = script.config;
   auto = script.auto;
+  form = script.form;
   commands = script.commands.items;
   schedule = script.schedule.items;
 }

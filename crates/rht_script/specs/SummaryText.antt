@@ -3,6 +3,7 @@
 use Rattle.std.specs.Prelude.{ℕ, ◌≤◌, Bool, true, false, List, [], ◌∷◌, ◌++◌, length, codes, All, count_by, sum_by, flat_map}
 use Rattle.rht_model.specs.declared.history.Reply.{Reply}
 use Rattle.rht_model.specs.declared.history.Reply.TheVariants.{Bound, Exists, Found, Missing, Released}
+use Rattle.rht_words.specs.Ports.{number_of}
 use Rattle.rht_model.specs.Endings.{Ending}
 use Rattle.rht_model.specs.Multimap.{Port}
 use Rattle.rht_script.specs.declared.writer.summary.Sort.{Sort}
@@ -44,11 +45,11 @@ how_many sort endings = sum_by (count_of sort) endings
 abbrev pub sort_text : List (List Ending) → Sort → List ℕ
 sort_text endings sort = named (sort_name sort) (how_many sort endings)
 
--- the sum of the ports that are bound
+-- the sum of the numbers of the ports that are bound, whatever their nets
 abbrev pub sum_of_ports : List (Port × List ℕ) → ℕ
-sum_of_ports bound = sum_by (λ pair. pair.0) bound
+sum_of_ports bound = sum_by (λ pair. number_of pair.0) bound
 
--- how many ports are bound, and their sum
+-- how many ports are bound, and the sum of their numbers
 abbrev pub bound_sums : List (Port × List ℕ) → List ℕ
 bound_sums bound = named (codes " keys") (length bound) ++ named (codes " sum") (sum_of_ports bound) ++ codes "\n"
 

@@ -14,9 +14,10 @@ use Rattle.rht_script.specs.declared.script.TableLine.{TableLine}
 use Rattle.rht_script.specs.declared.cause.Cause.{Cause}
 use Rattle.rht_script.specs.declared.cause.Cause.TheVariants.{NoTableLine, UnknownWord, OptionsDisagree}
 use Rattle.rht_script.specs.declared.options.Setting.{Setting}
-use Rattle.rht_script.specs.declared.options.Setting.TheVariants.{Nodes, Hint, Min, Max, Pages, Workers, Seed, Rewalks, Hashing, Shrink, Auto}
+use Rattle.rht_script.specs.declared.options.Setting.TheVariants.{Nodes, Hint, Min, Max, Pages, Workers, Seed, Rewalks, Form, Hashing, Shrink, Auto}
 use Rattle.rht_script.specs.declared.options.Options.{Options}
 use Rattle.rht_script.specs.Spelling.{◌>>=◌, is_word, number_of}
+use Rattle.rht_script.specs.PortWords.{one_number, form_limits}
 
 -- a setting with the number that the word stands for
 abbrev pub numbered : (ℕ → Setting) → Limits → List ℕ → Result Setting Cause
@@ -63,6 +64,7 @@ setting_of name value =
     else if is_word name (codes "workers") then numbered Workers caller_limits value
     else if is_word name (codes "seed") then numbered Seed seed_limits value
     else if is_word name (codes "rewalks") then numbered Rewalks rewalk_limits value
+    else if is_word name (codes "form") then numbered Form form_limits value
     else if is_word name (codes "hash") then (hash_of value >>= (λ hash. Ok (Hashing hash)))
     else if is_word name (codes "shrink") then (switch_of value >>= (λ shrink. Ok (Shrink shrink)))
     else if is_word name (codes "work") then (auto_of value >>= (λ auto. Ok (Auto auto)))
@@ -79,6 +81,7 @@ no_options = record {
   workers = None;
   seed = None;
   rewalks = None;
+  form = None;
   hash = None;
   shrink = None;
   auto = None;
@@ -103,6 +106,8 @@ with_setting options (Seed number) =
     record options { seed = Some number; twice = options.twice || is_some options.seed }
 with_setting options (Rewalks number) =
     record options { rewalks = Some number; twice = options.twice || is_some options.rewalks }
+with_setting options (Form number) =
+    record options { form = Some number; twice = options.twice || is_some options.form }
 with_setting options (Hashing hash) =
     record options { hash = Some hash; twice = options.twice || is_some options.hash }
 with_setting options (Shrink shrink) =
@@ -155,16 +160,13 @@ config_of kind options =
     then Ok (configured kind options)
     else Err OptionsDisagree
 
--- how ports are written: as one number
-abbrev pub one_number : ℕ
-one_number = 1
-
--- what the words of a table line behind its kind say; a worker runs `work` by itself where they don't say otherwise
+-- what the words of a table line behind its kind say; where they don't say otherwise, a worker runs `work` by itself, and
+-- ports are written as one number
 abbrev pub table_with : Kind → List (List ℕ) → Result TableLine Cause
 table_with kind words = do
   options ← options_from no_options words
   config ← config_of kind options
-  Ok (record { config = config; auto = unwrap_or options.auto true; form = one_number })
+  Ok (record { config = config; auto = unwrap_or options.auto true; form = unwrap_or options.form one_number })
 
 -- what the words of a table line behind `table` say: the kind, and the options
 abbrev pub table_below : List (List ℕ) → Result TableLine Cause

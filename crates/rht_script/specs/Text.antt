@@ -6,6 +6,7 @@ use Rattle.rht_model.specs.declared.bindings.Closed.{Closed}
 use Rattle.rht_model.specs.Multimap.{Port}
 use Rattle.rht_model.specs.Endings.{Ending}
 use Rattle.rht_script.specs.declared.script.ScriptFault.{ScriptFault}
+use Rattle.rht_script.specs.PortWords.{port_text}
 use Rattle.rht_model.specs.declared.history.Reply.{Reply}
 use Rattle.rht_model.specs.declared.history.Reply.TheVariants.{Bound, Exists, Found, Missing, Listed, Released, Absent, Rebound, TooBig, Again, Busy, NoTable, NoNode, Pending, Elsewhere, Walked, Moved, Idle, Clear, Counted}
 
@@ -23,7 +24,7 @@ owners_text owners = flat_map spaced owners
 
 -- a port and its first owner, after a space
 abbrev pub pair_text : Port × ℕ → List ℕ
-pair_text pair = spaced pair.0 ++ codes "=" ++ decimal pair.1
+pair_text pair = codes " " ++ port_text pair.0 ++ codes "=" ++ decimal pair.1
 
 -- a word that is there only in some cases
 abbrev pub only_if : Bool → List ℕ → List ℕ
@@ -64,7 +65,7 @@ reply_line worker reply owners pairs kicks =
 
 -- the line of a bound port: its owners, the first one first
 abbrev pub port_line : Port × List ℕ → List ℕ
-port_line pair = codes "port" ++ spaced pair.0 ++ codes ":" ++ owners_text pair.1 ++ codes "\n"
+port_line pair = codes "port " ++ port_text pair.0 ++ codes ":" ++ owners_text pair.1 ++ codes "\n"
 
 -- the last line: the size in buckets, and the number of bound ports
 abbrev pub last_line : ℕ → ℕ → List ℕ

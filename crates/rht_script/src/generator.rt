@@ -9,7 +9,7 @@ ghost use Rattle.rht_script.specs.Generated.{generated_said, generated_config, w
 ghost use Rattle.rht_script.specs.Reading.{said_by};
 ghost use Rattle.rht_script.specs.Sound.{IsSoundScript};
 
-use crate::script::Script;
+use crate::script::{ONE_NUMBER, Script};
 use rht_model::Call;
 use rht_words::{Config, Hash, Port};
 use std::alloc::{AllocError, Global};
@@ -21,7 +21,8 @@ const WORKERS: u32 = 8;
 const ROUNDS: u32 = 500;
 
 /// Makes the script of this number: 20,000 commands, 2,500 of each of 8 workers, and no schedule. Its
-/// last three digits are added to each port, and all of it is the table's seed.
+/// last three digits are added to each port, and all of it is the table's seed. Each port is of net
+/// 0, and the script is of form 1.
 ///
 /// Memory is taken for the commands alone.
 pub fn generated(alloc: Global, number: u32) -> Result<Script, AllocError>
@@ -35,6 +36,7 @@ pub fn generated(alloc: Global, number: u32) -> Result<Script, AllocError>
     Ok(Script {
         config: config(number),
         auto: true,
+        form: ONE_NUMBER,
         commands,
         schedule: Vec::new(alloc),
     })
@@ -69,30 +71,31 @@ fn add_worker(commands: &mut Vec<(u32, Call)>, offset: u32, worker: u32) -> Resu
     Ok(())
 }
 
-/// Adds the commands of a worker's round: all but the last ask about the port of the round.
+/// Adds the commands of a worker's round: all but the last ask about the port of the round, which
+/// has this number in net 0.
 fn add_round(
     commands: &mut Vec<(u32, Call)>,
     worker: u32,
-    port: Port,
+    port: u32,
     even: bool,
 ) -> Result<(), AllocError>
     requires { port < 100000 }
     ensures { OnOk result (commands.new.items ≡ commands.old.items ++ round_commands worker port even) }
 {
+    let other = Port::plain(port + 5_000);
+    let port = Port::plain(port);
     let bind = Call::Bind {
         port,
         owner: worker,
         once: false,
     };
-    let find = Call::Find { port };
-    let other = Call::Find { port: port + 5_000 };
     let middle = middle(worker, port, even);
     commands.extend_from_slice(&[
         (worker, bind),
-        (worker, find),
+        (worker, Call::Find { port }),
         (worker, middle),
-        (worker, find),
-        (worker, other),
+        (worker, Call::Find { port }),
+        (worker, Call::Find { port: other }),
     ])
 }
 

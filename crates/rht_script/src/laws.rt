@@ -2,7 +2,7 @@
 //! Each function is empty, and its clause is the law.
 
 ghost use Rattle.rht_script.specs.Generated.{GeneratedCounts, GeneratedSayable};
-ghost use Rattle.rht_script.specs.Laws.{FaultsAreFirst, ReadsBack, SaysSayable, WordsDecide};
+ghost use Rattle.rht_script.specs.Laws.{FaultsAreFirst, PlainPorts, ReadsBack, SaysSayable, WordsDecide};
 
 /// A fault in a line is that of the lines up to it alone, whatever comes behind them, and the lines
 /// before it have none. Which lines are at fault the law doesn't say.
@@ -20,6 +20,12 @@ pub fn reads_back()
 /// Which inputs say it the law doesn't say.
 pub fn says_sayable()
     ensures { SaysSayable }
+{}
+
+/// A script of form 1, as each is whose table line names no form, has ports of net 0 alone. Which
+/// scripts there are the law doesn't say.
+pub fn plain_ports()
+    ensures { PlainPorts }
 {}
 
 /// Blank lines, comments, and which blanks stand between words change nothing but the line of a

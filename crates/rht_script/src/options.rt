@@ -21,6 +21,7 @@ pub(crate) enum Setting {
     Workers(u32),
     Seed(u32),
     Rewalks(u32),
+    Form(u32),
     Hashing(Hash),
     Shrink(bool),
     Auto(bool),
@@ -37,6 +38,7 @@ pub(crate) struct Options {
     pub(crate) workers: Option<u32>,
     pub(crate) seed: Option<u32>,
     pub(crate) rewalks: Option<u32>,
+    pub(crate) form: Option<u32>,
     pub(crate) hash: Option<Hash>,
     pub(crate) shrink: Option<bool>,
     pub(crate) auto: Option<bool>,
@@ -58,6 +60,7 @@ impl Options {
             workers: None,
             seed: None,
             rewalks: None,
+            form: None,
             hash: None,
             shrink: None,
             auto: None,
@@ -111,6 +114,11 @@ impl Options {
             Setting::Rewalks(rewalks) => Options {
                 rewalks: Some(rewalks),
                 twice: self.twice || self.rewalks.is_some(),
+                ..self
+            },
+            Setting::Form(form) => Options {
+                form: Some(form),
+                twice: self.twice || self.form.is_some(),
                 ..self
             },
             Setting::Hashing(hash) => Options {

@@ -20,6 +20,7 @@ mod names;
 mod numbers;
 mod parts;
 mod places;
+mod ports;
 
 pub use self::cursors::{Lines, Words};
 pub use self::parts::{command_line, number_of, port_word, table_line};
@@ -27,14 +28,15 @@ pub use self::places::{line_end, word_at};
 use crate::cause::{Cause, at_line};
 use crate::options::{Options, Setting};
 use crate::script::{
-    EVENTS, ONE_NUMBER, ReadError, Sched, Script, ScriptFault, ScriptLine, TableLine, worker_limits,
+    EVENTS, FORMS, ONE_NUMBER, ReadError, Sched, Script, ScriptFault, ScriptLine, TableLine,
+    worker_limits,
 };
 use names::{
-    ALL, AUTO, BIND, COUNT, FIND, FINISH, HASH, HINT, LISTED, LOW, MANUAL, MAX, MIN, MIX, NODES,
-    OFF, ON, PAGES, REBIND, RELEASE, REWALKS, SEED, SHRINK, SINGLE, SKIP, STEP, TABLE, TIDY, WALK,
-    WORK, WORKERS,
+    ALL, AUTO, BIND, COUNT, FIND, FINISH, FORM, HASH, HINT, LISTED, LOW, MANUAL, MAX, MIN, MIX,
+    NODES, OFF, ON, PAGES, REBIND, RELEASE, REWALKS, SEED, SHRINK, SINGLE, SKIP, STEP, TABLE, TIDY,
+    WALK, WORK, WORKERS,
 };
-use numbers::{OWNER, PORT, number_within};
+use numbers::{OWNER, number_within};
 use rht_model::Call;
 use rht_words::{Config, Hash, Kind, limits};
 use std::alloc::Global;
@@ -103,6 +105,7 @@ fn script_below(alloc: Global, table: &TableLine, mut lines: Lines) -> Result<Sc
     let mut script = Script {
         config: table.config,
         auto: table.auto,
+        form: table.form,
         commands: Vec::new(alloc),
         schedule: Vec::new(alloc),
     };
@@ -132,7 +135,7 @@ fn table(mut words: Words) -> Result<TableLine, Cause>
     Ok(TableLine {
         config: options.config(kind)?,
         auto: options.auto.unwrap_or(true),
-        form: ONE_NUMBER,
+        form: options.form.unwrap_or(ONE_NUMBER),
     })
 }
 
@@ -186,6 +189,8 @@ fn setting(name: &[u8], value: &[u8]) -> Result<Setting, Cause>
         Ok(Setting::Seed(number_within(limits::SEED, value)?))
     } else if name == REWALKS {
         Ok(Setting::Rewalks(number_within(limits::REWALKS, value)?))
+    } else if name == FORM {
+        Ok(Setting::Form(number_within(FORMS, value)?))
     } else if name == HASH {
         Ok(Setting::Hashing(hash(value)?))
     } else if name == SHRINK {
@@ -278,27 +283,27 @@ fn command(table: &TableLine, worker: &[u8], words: Words) -> Result<(u32, Call)
         return Err(Cause::UnknownWord);
     }
     let worker = number_within(worker_limits(&table.config), worker)?;
-    Ok((worker, call(&table.config, words)?))
+    Ok((worker, call(table, words)?))
 }
 
-/// What a verb asks of a table of this config with the words behind it.
+/// What a verb asks below this table line with the words behind it.
 #[tactic(auto, unfolding(crate::specs::CommandLines::call_of))]
-fn call(config: &Config, mut words: Words) -> Result<Call, Cause>
-    ensures { result ≡ call_of config.now words.entry }
+fn call(table: &TableLine, mut words: Words) -> Result<Call, Cause>
+    ensures { result ≡ call_of table.now words.entry }
 {
     let verb = words.next().ok_or(Cause::UnknownWord)?;
     if verb == BIND {
-        bind(words)
+        bind(table.form, words)
     } else if verb == FIND {
-        find(words)
+        find(table.form, words)
     } else if verb == ALL {
-        all(words)
+        all(table.form, words)
     } else if verb == RELEASE {
-        release(words)
+        release(table.form, words)
     } else if verb == REBIND {
-        rebind(config.kind, words)
+        rebind(table.form, table.config.kind, words)
     } else if verb == WALK {
-        bare(whole_walk(config), words)
+        bare(whole_walk(&table.config), words)
     } else if verb == WORK {
         bare(Call::Work, words)
     } else if verb == TIDY {
@@ -312,10 +317,10 @@ fn call(config: &Config, mut words: Words) -> Result<Call, Cause>
 
 /// A bind of these words.
 #[tactic(auto, unfolding(crate::specs::CommandLines::bind_of))]
-fn bind(mut words: Words) -> Result<Call, Cause>
-    ensures { result ≡ bind_of words.entry }
+fn bind(form: u32, mut words: Words) -> Result<Call, Cause>
+    ensures { result ≡ bind_of form words.entry }
 {
-    let port = words.number(PORT)?;
+    let port = words.port(form)?;
     let owner = words.number(OWNER)?;
     words.end()?;
     Ok(Call::Bind {
@@ -327,30 +332,30 @@ fn bind(mut words: Words) -> Result<Call, Cause>
 
 /// A look-up of these words.
 #[tactic(auto, unfolding(crate::specs::CommandLines::find_of))]
-fn find(mut words: Words) -> Result<Call, Cause>
-    ensures { result ≡ find_of words.entry }
+fn find(form: u32, mut words: Words) -> Result<Call, Cause>
+    ensures { result ≡ find_of form words.entry }
 {
-    let port = words.number(PORT)?;
+    let port = words.port(form)?;
     words.end()?;
     Ok(Call::Find { port })
 }
 
 /// A listing of these words.
 #[tactic(auto, unfolding(crate::specs::CommandLines::all_of))]
-fn all(mut words: Words) -> Result<Call, Cause>
-    ensures { result ≡ all_of words.entry }
+fn all(form: u32, mut words: Words) -> Result<Call, Cause>
+    ensures { result ≡ all_of form words.entry }
 {
-    let port = words.number(PORT)?;
+    let port = words.port(form)?;
     words.end()?;
     Ok(Call::All { port })
 }
 
 /// A release of these words.
 #[tactic(auto, unfolding(crate::specs::CommandLines::release_of))]
-fn release(mut words: Words) -> Result<Call, Cause>
-    ensures { result ≡ release_of words.entry }
+fn release(form: u32, mut words: Words) -> Result<Call, Cause>
+    ensures { result ≡ release_of form words.entry }
 {
-    let port = words.number(PORT)?;
+    let port = words.port(form)?;
     let owner = words.number(OWNER)?;
     words.end()?;
     Ok(Call::Release { port, owner })
@@ -358,10 +363,10 @@ fn release(mut words: Words) -> Result<Call, Cause>
 
 /// A rebind of these words. That the table is of the wrong kind is the line's last fault.
 #[tactic(auto, unfolding(crate::specs::CommandLines::rebind_of))]
-fn rebind(kind: Kind, mut words: Words) -> Result<Call, Cause>
-    ensures { result ≡ rebind_of kind words.entry }
+fn rebind(form: u32, kind: Kind, mut words: Words) -> Result<Call, Cause>
+    ensures { result ≡ rebind_of form kind words.entry }
 {
-    let port = words.number(PORT)?;
+    let port = words.port(form)?;
     let owner = words.number(OWNER)?;
     let new = words.number(OWNER)?;
     words.end()?;

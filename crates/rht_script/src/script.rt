@@ -3,11 +3,12 @@
 ghost use Rattle.std.specs.Prelude.{◌≡◌, ◌↔◌, IsTrue};
 ghost use Rattle.rht_script.specs.declared.script.ReadError.TheVariants.{Fault, Memory};
 ghost use Rattle.std.specs.List.{list_all};
-ghost use Rattle.rht_script.specs.Sound.{IsSoundScript, is_sound_command, is_sound_call, is_sound_line};
+ghost use Rattle.rht_script.specs.Sound.{IsSoundScript, has_sound_numbers, is_sound_command, is_sound_call, is_sound_line};
+ghost use Rattle.rht_script.specs.PortWords.{is_port_in};
 ghost use Rattle.rht_script.specs.CommandLines.{worker_limits};
 
 use rht_model::Call;
-use rht_words::{Config, Kind, Limits};
+use rht_words::{Config, Kind, Limits, Port};
 use std::alloc::{AllocError, AllocFailed};
 
 /// What a table line says.
@@ -17,12 +18,21 @@ pub struct TableLine {
     pub config: Config,
     /// Whether a worker runs `work` by itself where a reply asks for it.
     pub auto: bool,
-    /// How ports are written: 1, as one number.
+    /// How ports are written: 1, as one number; 2, as one number or with a net too.
     pub form: u32,
 }
 
-/// How ports are written where a table line says nothing of it.
+/// The form in which a port is one number, which is so where a table line says nothing of it.
 pub(crate) const ONE_NUMBER: u32 = 1;
+
+/// The form in which a port may have a net too.
+pub(crate) const NET_AND_NUMBER: u32 = 2;
+
+/// The forms.
+pub(crate) const FORMS: Limits = Limits {
+    least: ONE_NUMBER,
+    greatest: NET_AND_NUMBER,
+};
 
 /// A script: what the table is opened with, and what the workers do.
 #[derive(Debug, Drop)]
@@ -31,6 +41,8 @@ pub struct Script {
     pub config: Config,
     /// Whether a worker runs `work` by itself where a reply asks for it.
     pub auto: bool,
+    /// How ports are written: 1, as one number; 2, as one number or with a net too.
+    pub form: u32,
     /// The commands in the order of their lines, each with its worker, counted from 1.
     pub commands: Vec<(u32, Call)>,
     /// The schedule that a replay follows, in the order of its lines.
@@ -47,25 +59,26 @@ pub(crate) const EVENTS: Limits = Limits {
 };
 
 impl Script {
-    /// Whether the script can be run: a table can be opened with its config, and each command and
-    /// each line of its schedule fits that table and its workers.
+    /// Whether the script can be run: a table can be opened with its config, there is such a form,
+    /// and each command and each line of its schedule fits that table, its workers and the form.
     pub fn is_sound(&self) -> bool
         ensures { IsTrue result ↔ IsSoundScript self.now }
     {
         self.config.is_settled()
+            && FORMS.allow(self.form)
             && self.commands.len() <= MOST_LINES
-            && are_sound_commands(&self.config, &self.commands)
+            && are_sound_commands(self.form, &self.config, &self.commands)
             && are_sound_lines(&self.config, &self.schedule)
     }
 }
 
-/// Whether each command is a worker's, and its call can be run.
-fn are_sound_commands(config: &Config, commands: &[(u32, Call)]) -> bool
-    ensures { result ≡ list_all (is_sound_command config.now) commands.now }
+/// Whether each command is a worker's, its port can be named in this form, and its call can be run.
+fn are_sound_commands(form: u32, config: &Config, commands: &[(u32, Call)]) -> bool
+    ensures { result ≡ list_all (is_sound_command form config.now) commands.now }
 {
     commands
         .iter()
-        .all(|command| is_sound_command(config, *command))
+        .all(|command| is_sound_command(form, config, *command))
 }
 
 /// Whether each line of the schedule is a worker's, and its number is within its limits.
@@ -75,12 +88,35 @@ fn are_sound_lines(config: &Config, schedule: &[Sched]) -> bool
     schedule.iter().all(|line| is_sound_line(config, *line))
 }
 
-/// Whether the command is a worker's, and its call can be run. That its port and owners are within
-/// their limits is so by their types.
-fn is_sound_command(config: &Config, command: (u32, Call)) -> bool
-    ensures { result ≡ is_sound_command config.now command }
+/// Whether the command is a worker's, its port can be named in this form, and its call can be run.
+fn is_sound_command(form: u32, config: &Config, command: (u32, Call)) -> bool
+    ensures { result ≡ is_sound_command form config.now command }
 {
-    worker_limits(config).allow(command.0) && is_sound_call(config, command.1)
+    worker_limits(config).allow(command.0)
+        && has_sound_numbers(form, command.1)
+        && is_sound_call(config, command.1)
+}
+
+/// Whether scripts of this form can name the call's port. That its owners are within their limits is
+/// so by their types.
+fn has_sound_numbers(form: u32, call: Call) -> bool
+    ensures { result ≡ has_sound_numbers form call }
+{
+    match call {
+        Call::Bind { port, .. }
+        | Call::Find { port }
+        | Call::All { port }
+        | Call::Release { port, .. }
+        | Call::Rebind { port, .. } => is_port_in(form, port),
+        Call::Walk { .. } | Call::Work | Call::Tidy | Call::Count => true,
+    }
+}
+
+/// Whether scripts of this form can name the port: in form 1 its net is 0.
+fn is_port_in(form: u32, port: Port) -> bool
+    ensures { result ≡ is_port_in form port }
+{
+    form == NET_AND_NUMBER || port.net == 0
 }
 
 /// Whether a table of this config serves the call.

@@ -6,6 +6,7 @@
 ghost use Rattle.std.specs.Prelude.{◌≡◌, ◌≤◌, ◌+◌, ◌++◌, length, codes, decimal, flat_map};
 ghost use Rattle.std.specs.List.{enumerate_from};
 ghost use Rattle.rht_io.specs.Told.{Puts};
+ghost use Rattle.rht_script.specs.PortWords.{port_text};
 ghost use Rattle.rht_script.specs.Text.{pair_text, owners_text, walk_end, reply_text, reply_line, port_line, last_line, closed_text, worker_text, ending_line, run_text, cause_text, fault_line};
 ghost use Rattle.rht_script.specs.Writing.{Adds};
 
@@ -213,18 +214,23 @@ fn add_ports<O: Sink>(text: &mut Writer<'_, O>, bindings: &Bindings) -> Result<(
     ensures same_sink { text.new.out.ghost_name ≡ text.old.out.ghost_name }
 {
     for i in 0..bindings.len() {
-        add_port(text, bindings.port(i), bindings.owners(i))?;
+        add_port_line(text, bindings.port(i), bindings.owners(i))?;
     }
     Ok(())
 }
 
 /// Adds the line of a port.
-fn add_port<O: Sink>(text: &mut Writer<'_, O>, port: Port, owners: &[u32]) -> Result<(), Failed>
+fn add_port_line<O: Sink>(
+    text: &mut Writer<'_, O>,
+    port: Port,
+    owners: &[u32],
+) -> Result<(), Failed>
     ensures text { Adds O.held O.faults text.old.out.now text.new.out.now result
         text.old.waiting text.new.waiting (port_line (port, owners.now)) }
     ensures same_sink { text.new.out.ghost_name ≡ text.old.out.ghost_name }
 {
-    text.add_named(b"port", port.into())?;
+    text.add(b"port ")?;
+    text.add_port(port)?;
     text.add(b":")?;
     text.add_owners(owners)?;
     text.end_line()
@@ -249,11 +255,14 @@ pub fn write_number<O: Sink>(out: &mut O, number: u64) -> Result<(), Failed>
     put_all(out, digits.format(number).as_bytes())
 }
 
-/// Writes a port as scripts have it, which is a number.
+/// Writes a port: its number where its net is 0, and else its net, a dot and its number. Scripts of
+/// form 2 read each port so, and those of form 1 each port of net 0.
 pub fn write_port<O: Sink>(out: &mut O, port: Port) -> Result<(), Failed>
-    ensures { Puts O.held O.faults out.old out.new result (decimal port) }
+    ensures { Puts O.held O.faults out.old out.new result (port_text port) }
 {
-    write_number(out, port.into())
+    let mut text = Writer::new(out);
+    text.add_port(port)?;
+    text.put()
 }
 
 /// Writes the line that tells of a script's first fault: `rht: line`, the line's number, and what

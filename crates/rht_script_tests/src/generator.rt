@@ -6,10 +6,10 @@ use rht_script::generated;
 use rht_words::{Config, Hash, Port};
 use std::test::Fail;
 
-/// A worker's bind of a port of its own.
-fn bind(worker: u32, port: Port) -> (u32, Call) {
+/// A worker's bind of a port of its own, of net 0.
+fn bind(worker: u32, number: u32) -> (u32, Call) {
     let call = Call::Bind {
-        port,
+        port: Port::plain(number),
         owner: worker,
         once: false,
     };
@@ -17,14 +17,15 @@ fn bind(worker: u32, port: Port) -> (u32, Call) {
 }
 
 /// A worker's look-up.
-fn find(worker: u32, port: Port) -> (u32, Call) {
+fn find(worker: u32, number: u32) -> (u32, Call) {
+    let port = Port::plain(number);
     (worker, Call::Find { port })
 }
 
 /// A worker's release of a port of its own.
-fn release(worker: u32, port: Port) -> (u32, Call) {
+fn release(worker: u32, number: u32) -> (u32, Call) {
     let call = Call::Release {
-        port,
+        port: Port::plain(number),
         owner: worker,
     };
     (worker, call)
@@ -70,6 +71,7 @@ fn makes_the_script_of_number_7(rt: HostRuntime) -> Result<(), Fail> {
     assert_same(&rt, &script.config.starting_size(), &2_048, 7);
     let flags = (script.auto, script.schedule.is_empty(), script.is_sound());
     assert_same(&rt, &flags, &(true, true, true), 7);
+    assert_same(&rt, &script.form, &1, 7);
     // Round 0 of worker 1, whose port is 10,000 + 7 + 0, and then round 1.
     let first = [
         bind(1, 10_007),

@@ -7,7 +7,7 @@ use crate::asserts::assert_same;
 use faulty_inputs::FAULTS;
 use rht_model::Call;
 use rht_script::{ReadError, Sched, ScriptFault, read};
-use rht_words::{Config, Hash, Kind};
+use rht_words::{Config, Hash, Kind, Port};
 use std::alloc::{AllocError, Global};
 use std::process::Abort;
 use std::test::Fail;
@@ -58,7 +58,8 @@ fn assert_script(
     let script = read(alloc, text.as_bytes())?;
     assert_same(rt, &script.config, &config, text);
     assert_same(rt, &script.commands.as_slice(), &commands, text);
-    assert_same(rt, &(script.auto, script.schedule.len()), &(true, 0), text);
+    let others = (script.auto, script.form, script.schedule.len());
+    assert_same(rt, &others, &(true, 1, 0), text);
     assert_same(rt, &script.is_sound(), &true, text);
     Ok(())
 }
@@ -140,7 +141,12 @@ fn reads_scripts(rt: HostRuntime) -> Result<(), Fail> {
         (
             "table single workers 1\n1 find 0\n",
             plain,
-            &[(1, Call::Find { port: 0 })],
+            &[(
+                1,
+                Call::Find {
+                    port: Port::plain(0),
+                },
+            )],
         ),
         (
             "table single workers 2\n2 find 0\n1 count\n2 work\n1 tidy\n2 walk\n",
@@ -149,7 +155,12 @@ fn reads_scripts(rt: HostRuntime) -> Result<(), Fail> {
                 ..plain
             },
             &[
-                (2, Call::Find { port: 0 }),
+                (
+                    2,
+                    Call::Find {
+                        port: Port::plain(0),
+                    },
+                ),
                 (1, Call::Count),
                 (2, Call::Work),
                 (1, Call::Tidy),
@@ -171,7 +182,12 @@ fn reads_scripts(rt: HostRuntime) -> Result<(), Fail> {
                 ..plain
             },
             &[
-                (16, Call::Find { port: 0 }),
+                (
+                    16,
+                    Call::Find {
+                        port: Port::plain(0),
+                    },
+                ),
                 (
                     1,
                     Call::Walk {
@@ -236,16 +252,21 @@ fn reads_scripts(rt: HostRuntime) -> Result<(), Fail> {
                 (
                     1,
                     Call::Bind {
-                        port: 80,
+                        port: Port::plain(80),
                         owner: 100,
                         once: false,
                     },
                 ),
-                (1, Call::Find { port: 80 }),
+                (
+                    1,
+                    Call::Find {
+                        port: Port::plain(80),
+                    },
+                ),
                 (
                     1,
                     Call::Release {
-                        port: 80,
+                        port: Port::plain(80),
                         owner: 100,
                     },
                 ),
@@ -255,11 +276,16 @@ fn reads_scripts(rt: HostRuntime) -> Result<(), Fail> {
             "table single\n1 all 80\n1 rebind 80 100 4294967295\n1 count\n",
             plain,
             &[
-                (1, Call::All { port: 80 }),
+                (
+                    1,
+                    Call::All {
+                        port: Port::plain(80),
+                    },
+                ),
                 (
                     1,
                     Call::Rebind {
-                        port: 80,
+                        port: Port::plain(80),
                         owner: 100,
                         new: 4294967295,
                     },
@@ -271,8 +297,18 @@ fn reads_scripts(rt: HostRuntime) -> Result<(), Fail> {
             "table single\r\n\r\n\t1 find\t0 \r\n# b\n00000000000000000001 find 00000000004294967295\n\n",
             plain,
             &[
-                (1, Call::Find { port: 0 }),
-                (1, Call::Find { port: 4294967295 }),
+                (
+                    1,
+                    Call::Find {
+                        port: Port::plain(0),
+                    },
+                ),
+                (
+                    1,
+                    Call::Find {
+                        port: Port::plain(4294967295),
+                    },
+                ),
             ],
         ),
     ];
@@ -360,6 +396,29 @@ fn reads_who_runs_the_work(rt: HostRuntime) -> Result<(), Fail> {
     for (text, auto) in scripts {
         let script = read(rt.alloc(), text.as_bytes())?;
         assert_same(&rt, &(script.auto, script.is_sound()), &(auto, true), text);
+    }
+    Ok(())
+}
+
+#[test]
+fn reads_forms(rt: HostRuntime) -> Result<(), Fail> {
+    // the input, its form, and the net of the port of its first command
+    let scripts = [
+        ("table single\n1 find 80\n", 1, 0),
+        ("table single form 1\n1 find 80\n", 1, 0),
+        ("table single form 2\n1 find 80\n", 2, 0),
+        ("table single form 2\n1 find 0.80\n", 2, 0),
+        ("table listed workers 2 form 002\n2 find 3.080\n", 2, 3),
+        ("table single form 2 seed 1\n1 find 65535.80", 2, 65_535),
+    ];
+    for (text, form, net) in scripts {
+        let script = read(rt.alloc(), text.as_bytes())?;
+        assert_same(&rt, &(script.form, script.is_sound()), &(form, true), text);
+        let find = Call::Find {
+            port: Port { net, number: 80 },
+        };
+        assert!(rt; script.commands.len() == 1);
+        assert_same(&rt, &script.commands[0].1, &find, text);
     }
     Ok(())
 }

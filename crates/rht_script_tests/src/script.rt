@@ -3,7 +3,7 @@
 use crate::asserts::assert_same;
 use rht_model::{Call, Cursor};
 use rht_script::{Sched, Script};
-use rht_words::{Config, Kind};
+use rht_words::{Config, Kind, Port};
 use std::alloc::{AllocError, Global};
 use std::test::Fail;
 
@@ -13,9 +13,10 @@ const CURSOR: Cursor = Cursor {
     bucket: 0,
 };
 
-/// A script of one command and one line of a schedule.
+/// A script of this form, of one command and one line of a schedule.
 fn script_of(
     alloc: Global,
+    form: u32,
     config: Config,
     command: (u32, Call),
     line: Sched,
@@ -23,9 +24,31 @@ fn script_of(
     Ok(Script {
         config,
         auto: true,
+        form,
         commands: vec![in alloc; command]?,
         schedule: vec![in alloc; line]?,
     })
+}
+
+/// A look-up of port 80 of this net.
+fn find_in(net: u16) -> Call {
+    Call::Find {
+        port: Port { net, number: 80 },
+    }
+}
+
+/// A look-up of port 80.
+fn find() -> Call {
+    find_in(0)
+}
+
+/// A rebind of port 80.
+fn rebind() -> Call {
+    Call::Rebind {
+        port: Port::plain(80),
+        owner: 1,
+        new: 2,
+    }
 }
 
 #[test]
@@ -40,35 +63,29 @@ fn tells_scripts_that_can_be_run(rt: HostRuntime) -> Result<(), Fail> {
         kind: Kind::Listed,
         ..config
     };
-    let find = Call::Find { port: 80 };
-    let rebind = Call::Rebind {
-        port: 80,
-        owner: 1,
-        new: 2,
-    };
     let last = Sched::Finish {
         worker: 2,
         number: 1_000_000,
     };
     let cases = [
-        (config, (2, find), last, true),
+        (config, (2, find()), last, true),
         // The config isn't settled: 5 is no power of two, and 4 pages have 256 buckets.
-        (Config { min: 5, ..config }, (2, find), last, false),
+        (Config { min: 5, ..config }, (2, find()), last, false),
         (
             Config {
                 hint: 300,
                 ..config
             },
-            (2, find),
+            (2, find()),
             last,
             false,
         ),
         // Workers are counted from 1, and there are two.
-        (config, (0, find), last, false),
-        (config, (3, find), last, false),
+        (config, (0, find()), last, false),
+        (config, (3, find()), last, false),
         (
             config,
-            (2, find),
+            (2, find()),
             Sched::Step {
                 worker: 0,
                 number: 1,
@@ -77,7 +94,7 @@ fn tells_scripts_that_can_be_run(rt: HostRuntime) -> Result<(), Fail> {
         ),
         (
             config,
-            (2, find),
+            (2, find()),
             Sched::Skip {
                 worker: 3,
                 number: 1,
@@ -86,7 +103,7 @@ fn tells_scripts_that_can_be_run(rt: HostRuntime) -> Result<(), Fail> {
         ),
         (
             config,
-            (2, find),
+            (2, find()),
             Sched::Step {
                 worker: 1,
                 number: 0,
@@ -95,7 +112,7 @@ fn tells_scripts_that_can_be_run(rt: HostRuntime) -> Result<(), Fail> {
         ),
         (
             config,
-            (2, find),
+            (2, find()),
             Sched::Skip {
                 worker: 1,
                 number: 1_000_001,
@@ -108,7 +125,7 @@ fn tells_scripts_that_can_be_run(rt: HostRuntime) -> Result<(), Fail> {
             (
                 1,
                 Call::Bind {
-                    port: 80,
+                    port: Port::plain(80),
                     owner: 1,
                     once: true,
                 },
@@ -116,8 +133,8 @@ fn tells_scripts_that_can_be_run(rt: HostRuntime) -> Result<(), Fail> {
             last,
             false,
         ),
-        (config, (1, rebind), last, true),
-        (listed, (1, rebind), last, false),
+        (config, (1, rebind()), last, true),
+        (listed, (1, rebind()), last, false),
         (
             config,
             (
@@ -156,8 +173,34 @@ fn tells_scripts_that_can_be_run(rt: HostRuntime) -> Result<(), Fail> {
         ),
     ];
     for (config, command, line, sound) in cases {
-        let script = script_of(rt.alloc(), config, command, line)?;
+        let script = script_of(rt.alloc(), 1, config, command, line)?;
         assert_same(&rt, &script.is_sound(), &sound, &script);
+    }
+    Ok(())
+}
+
+#[test]
+fn tells_ports_that_a_form_can_name(rt: HostRuntime) -> Result<(), Fail> {
+    // the form, the net of the port, and whether the script can be run
+    let cases = [
+        (1, 0, true),
+        (2, 0, true),
+        (1, 1, false),
+        (1, 65_535, false),
+        (2, 1, true),
+        (2, 65_535, true),
+        (0, 0, false),
+        (3, 0, false),
+        (3, 1, false),
+    ];
+    let line = Sched::Step {
+        worker: 1,
+        number: 1,
+    };
+    for (form, net, sound) in cases {
+        let command = (1, find_in(net));
+        let script = script_of(rt.alloc(), form, Config::plain(), command, line)?;
+        assert_same(&rt, &script.is_sound(), &sound, (form, net));
     }
     Ok(())
 }

@@ -5,6 +5,7 @@ use crate::asserts::{assert_same, assert_text};
 use rht_io::MemSink;
 use rht_model::{Bindings, Closed, Cursor, Reply};
 use rht_script::{ScriptFault, write_closed, write_fault, write_reply};
+use rht_words::Port;
 use std::alloc::{AllocError, Global};
 use std::process::Abort;
 use std::test::Fail;
@@ -18,7 +19,10 @@ fn assert_reply(
     text: &str,
 ) -> Result<(), Fail> {
     let mut sink = MemSink::new(alloc, 64, Vec::new(alloc))?;
-    let written = write_reply(&mut sink, 16, reply, &[3, 2, 1], &[(0, 10), (5, 15)], kicks);
+    let first = Port::plain(0);
+    let second = Port { net: 7, number: 5 };
+    let pairs = [(first, 10), (second, 15)];
+    let written = write_reply(&mut sink, 16, reply, &[3, 2, 1], &pairs, kicks);
     assert_same(rt, &written, &Ok(()), text);
     assert_text(rt, &sink, &format!(in alloc; "16: {text}\n")?);
     Ok(())
@@ -26,7 +30,7 @@ fn assert_reply(
 
 #[test]
 fn each_reply_has_its_text(rt: HostRuntime) -> Result<(), Fail> {
-    // Beside each reply lie the owners 3 2 1 and the pairs 0=10 5=15; two replies show them.
+    // Beside each reply lie the owners 3 2 1 and the pairs 0=10 7.5=15; two replies show them.
     let next = Some(Cursor {
         serial: 1,
         bucket: 8,
@@ -65,9 +69,13 @@ fn each_reply_has_its_text(rt: HostRuntime) -> Result<(), Fail> {
         (
             Reply::Walked { len: 2, next: None },
             true,
-            "walk 0=10 5=15 end",
+            "walk 0=10 7.5=15 end",
         ),
-        (Reply::Walked { len: 2, next }, false, "walk 0=10 5=15 more"),
+        (
+            Reply::Walked { len: 2, next },
+            false,
+            "walk 0=10 7.5=15 more",
+        ),
         (Reply::Moved { again: true }, false, "moved again"),
         (Reply::Moved { again: false }, true, "moved"),
         (Reply::Idle, false, "idle"),
@@ -101,9 +109,9 @@ fn short_lists_have_no_space_too_many(rt: HostRuntime) -> Result<(), Fail> {
 /// Two owners of port 7, and one of port 80.
 fn three_bindings(alloc: Global) -> Result<Closed, AllocError> {
     let mut bindings = Bindings::with_room(alloc, 3)?;
-    bindings.add(7, 5);
-    bindings.add(7, 4);
-    bindings.add(80, 1);
+    bindings.add(Port::plain(7), 5);
+    bindings.add(Port::plain(7), 4);
+    bindings.add(Port::plain(80), 1);
     Ok(Closed {
         bindings,
         size: 64,

@@ -1,13 +1,13 @@
 -- What the words of a table say at its closing: what is bound, the size of the current table, and how many ports are bound.
 -- It is said of any words. Below it stand the lists from which the bindings are made.
-use Rattle.std.specs.Prelude.{◌≡◌, ℕ, ◌^◌, ◌<◌, ◌≤◌, ◌==◌, Bool, true, false, Option, Some, List, [], ◌∷◌, map, filter, length, replicate, All, slice_index_or, slice_set, vec_capacity}
+use Rattle.std.specs.Prelude.{◌≡◌, ℕ, ◌<◌, ◌≤◌, ◌==◌, Bool, true, false, Option, Some, List, [], ◌∷◌, map, filter, length, replicate, All, slice_index_or, slice_set, vec_capacity}
 use Rattle.std.specs.Option.{option_map}
 use Rattle.std.specs.List.{find, flat_map, range_with_len}
 use Rattle.std.specs.List.Sorted.{IsStrictlyIncreasing}
 use Rattle.rht_words.specs.declared.geometry.Geometry.{Geometry}
 use Rattle.rht_words.specs.Members.{In, IsDistinct}
 use Rattle.rht_words.specs.Links.{table_of}
-use Rattle.rht_words.specs.Ports.{port_of}
+use Rattle.rht_words.specs.Ports.{IsPort, port_of}
 use Rattle.rht_words.specs.Shapes.{size_of, unpacked}
 use Rattle.rht_words.specs.Places.{CurrentTable, Slot, ShapeWord, Node, KeyWord, word_at}
 use Rattle.rht_model.specs.Multimap.{Port}
@@ -35,7 +35,7 @@ module _ (g : Geometry) (words : List ℕ) where
 
   -- each node that is met is the first one of a port; and in the lists of different ports there are no more nodes than there are
   pub record IsListable : Type 0 where
-    pub port : (node : ℕ) → In node nodes_met → word_at g words (Node node KeyWord) < 2 ^ 32
+    pub port : (node : ℕ) → In node nodes_met → IsPort (word_at g words (Node node KeyWord))
     pub first : (node : ℕ) → In node nodes_met → first_node g words (word_at g words (Node node KeyWord)) ≡ Some node
     pub few : (ports : List ℕ) → IsDistinct ports → length (flat_map (nodes_of g words) ports) ≤ g.nodes
 

@@ -4,7 +4,7 @@ ghost use Rattle.std.specs.Prelude.{◌≡◌, true, IfSome};
 ghost use Rattle.rht_core.specs.Locals.{is_idle};
 ghost use Rattle.rht_run.specs.Passes.{IsPassOf, AreNew, IsNew};
 
-use crate::asserts::assert_same;
+use crate::asserts::{assert_pairs, assert_same};
 use crate::run::SMALL;
 use rht_model::Reply;
 use rht_policy::{Low, Mix};
@@ -15,19 +15,19 @@ use std::sync::Wait;
 use std::test::Fail;
 use std::thread::{Threads, join};
 
-/// What a thread does: it binds a port, asks who has it, gives it back, tidies, and binds it to another
-/// owner. The tidying may be `Pending`, since the other thread may be in a call.
-fn work<M: Mix, R: Wait>(rt: &R, table: &Table<M>, mut pass: Pass<M>, port: Port) -> Pass<M>
+/// What a thread does: it binds the port of this number, asks who has it, gives it back, tidies, and binds
+/// it to another owner. The tidying may be `Pending`, since the other thread may be in a call.
+fn work<M: Mix, R: Wait>(rt: &R, table: &Table<M>, mut pass: Pass<M>, number: u32) -> Pass<M>
     requires pass { IsPassOf M.mix_of table.now pass }
     requires idle { is_idle pass.local ≡ true }
     ensures pass { IsPassOf M.mix_of table.now result }
     ensures idle { is_idle result.local ≡ true }
 {
-    table.bind(rt, &mut pass, port, 1);
-    table.find(&mut pass, port);
-    table.release(rt, &mut pass, port, 1);
+    table.bind(rt, &mut pass, Port::plain(number), 1);
+    table.find(&mut pass, Port::plain(number));
+    table.release(rt, &mut pass, Port::plain(number), 1);
     table.tidy(&mut pass);
-    table.bind(rt, &mut pass, port, 2);
+    table.bind(rt, &mut pass, Port::plain(number), 2);
     pass
 }
 
@@ -104,8 +104,8 @@ fn two_threads_share_a_registry(rt: HostRuntime) -> Result<(), Fail> {
     let (first, second) = pair(&table, passes).ok_or("two passes")?;
     let (mut first, mut second) = both(&rt, &table, first, second);
     let counted = table.count(&mut first);
-    let found = table.find(&mut first, 6);
-    let other = table.find(&mut second, 5);
+    let found = table.find(&mut first, Port::plain(6));
+    let other = table.find(&mut second, Port::plain(5));
     let want = [
         Reply::Counted { count: 2 },
         Reply::Found { owner: 2 },
@@ -113,6 +113,6 @@ fn two_threads_share_a_registry(rt: HostRuntime) -> Result<(), Fail> {
     ];
     assert_same(&rt, [counted, found, other], want);
     let pairs = walked(rt.alloc(), &table, &mut first, 1)?.ok_or("a whole walk")?;
-    assert_same(&rt, pairs.as_slice(), &[(5, 2), (6, 2)]);
+    assert_pairs(&rt, pairs.as_slice(), &[(5, 2), (6, 2)]);
     Ok(())
 }

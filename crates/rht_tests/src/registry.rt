@@ -1,12 +1,12 @@
 //! Scripts done on a table. The replies are worked out by hand from what the commands say.
 
 ghost use Rattle.std.specs.Prelude.{◌≡◌, false, IfOk};
-ghost use Rattle.rht_model.specs.declared.history.Call.TheVariants.{Bind, Rebind};
+ghost use Rattle.rht_model.specs.declared.history.Call.TheVariants.{Bind, Find, Release, Rebind};
 ghost use Rattle.rht_policy.specs.Mix.{mix_named, low_mix};
 ghost use Rattle.rht_script.specs.Sound.{IsSoundScript};
 ghost use Rattle.rht_registry.specs.Outcomes.{IsOutcome};
 
-use crate::asserts::{assert_bound, assert_same};
+use crate::asserts::{assert_bound, assert_pairs, assert_same};
 use rht_io::{Gate, NoGate};
 use rht_model::{Call, Closed, Replies, Reply};
 use rht_policy::{Low, Mix};
@@ -34,20 +34,41 @@ const SMALL: Config = Config {
     shrink: false,
 };
 
-fn bind(port: Port, owner: u32) -> Call
+fn bind(port: u32, owner: u32) -> Call
     ensures { result ≡ Bind port owner false }
 {
     Call::Bind {
-        port,
+        port: Port::plain(port),
         owner,
         once: false,
     }
 }
 
-fn rebind(port: Port, owner: u32, new: u32) -> Call
+fn rebind(port: u32, owner: u32, new: u32) -> Call
     ensures { result ≡ Rebind port owner new }
 {
-    Call::Rebind { port, owner, new }
+    Call::Rebind {
+        port: Port::plain(port),
+        owner,
+        new,
+    }
+}
+
+fn release(port: u32, owner: u32) -> Call
+    ensures { result ≡ Release port owner }
+{
+    Call::Release {
+        port: Port::plain(port),
+        owner,
+    }
+}
+
+fn find(port: u32) -> Call
+    ensures { result ≡ Find port }
+{
+    Call::Find {
+        port: Port::plain(port),
+    }
 }
 
 /// Binds ports of one bucket and of another, takes one out, gives one another owner, looks ports up,
@@ -61,12 +82,12 @@ fn small_script<M: Mix>(alloc: Global) -> Result<Script, AllocError>
         (1, bind(5, 3)),
         (1, rebind(69, 7, 8)),
         (1, rebind(5, 7, 8)),
-        (1, Call::Release { port: 5, owner: 9 }),
+        (1, release(5, 9)),
         (1, bind(6, 3)),
         (1, bind(7, 1)),
         (1, rebind(6, 3, 4)),
-        (1, Call::Find { port: 69 }),
-        (1, Call::Find { port: 5 }),
+        (1, find(69)),
+        (1, find(5)),
         (1, Call::Count),
         (
             1,
@@ -79,6 +100,7 @@ fn small_script<M: Mix>(alloc: Global) -> Result<Script, AllocError>
     Ok(Script {
         config: SMALL,
         auto: false,
+        form: 1,
         commands: Vec::from_slice(alloc, &commands)?,
         schedule: Vec::new(alloc),
     })
@@ -160,8 +182,8 @@ fn a_script_is_done_on_the_table(rt: HostRuntime) -> Result<(), Fail> {
     assert_replies(&rt, &replies[0], &want);
     // Port 69 is in bucket 5.
     assert!(rt; replies[0].len() > 12);
-    assert_same(&rt, replies[0].pairs(12), &[(69, 8), (6, 4), (7, 1)]);
-    assert_same(&rt, replies[0].pairs(11), &[]);
+    assert_pairs(&rt, replies[0].pairs(12), &[(69, 8), (6, 4), (7, 1)]);
+    assert_pairs(&rt, replies[0].pairs(11), &[]);
     assert_bound(&rt, &closed, 64, &[(6, &[4]), (7, &[1]), (69, &[8])]);
     Ok(())
 }
@@ -193,6 +215,7 @@ fn pair_script<M: Mix>(alloc: Global, order: [u32; 2]) -> Result<Script, AllocEr
             ..SMALL
         },
         auto: true,
+        form: 1,
         commands: Vec::from_slice(alloc, &commands)?,
         schedule: Vec::new(alloc),
     })

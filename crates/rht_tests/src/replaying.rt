@@ -12,7 +12,7 @@ use rht_model::Call;
 use rht_policy::{Lookup3, Low, Mix};
 use rht_registry::{ReplayError, replay};
 use rht_script::{Sched, Script};
-use rht_words::{Config, Hash, Kind};
+use rht_words::{Config, Hash, Kind, Port};
 use std::alloc::Global;
 use std::process::Abort;
 use std::test::Fail;
@@ -49,14 +49,16 @@ const SMALL: Config = Config {
 
 fn bind(port: u32, owner: u32) -> Call {
     Call::Bind {
-        port,
+        port: Port::plain(port),
         owner,
         once: false,
     }
 }
 
 fn find(port: u32) -> Call {
-    Call::Find { port }
+    Call::Find {
+        port: Port::plain(port),
+    }
 }
 
 fn step(worker: u32, number: u32) -> Sched {
@@ -87,6 +89,7 @@ fn assert_replay<M: Mix>(
     let script = Script {
         config,
         auto: true,
+        form: 1,
         commands: Vec::from_slice(alloc, commands)?,
         schedule: Vec::from_slice(alloc, schedule)?,
     };

@@ -6,12 +6,12 @@ ghost use Rattle.rht_words.specs.declared.config.Kind.TheVariants.{Single};
 ghost use Rattle.rht_core.specs.Locals.{is_idle};
 ghost use Rattle.rht_run.specs.Passes.{IsPassOf, AreNew, IsNew};
 
-use crate::asserts::{assert_bound, assert_same};
+use crate::asserts::{assert_bound, assert_pairs, assert_same};
 use crate::library::pair;
 use rht_model::{Call, Closed, Cursor, Reply};
 use rht_policy::{Low, Mix};
 use rht_run::{Pass, Table};
-use rht_words::{Config, Hash, Kind, Port};
+use rht_words::{Config, Hash, Kind, Port, word_of};
 use std::alloc::{AllocError, Global};
 use std::process::Abort;
 use std::sync::Wait;
@@ -66,15 +66,16 @@ fn each_call<M: Mix, R: Wait>(rt: &R, table: &Table<M>, pass: &mut Pass<M>) -> [
     requires single { table.now.env.config.kind ≡ Single }
     ensures pass { IsPassOf M.mix_of table.now pass.new }
 {
-    let bound = table.bind(rt, pass, 5, 9);
-    let exists = table.bind_once(rt, pass, 5, 3);
-    let found = table.find(pass, 5);
-    let rebound = table.rebind(rt, pass, 5, 9, 4);
-    let other = table.bind(rt, pass, 6, 2);
-    let released = table.release(rt, pass, 6, 2);
+    let (port, second) = (Port::plain(5), Port::plain(6));
+    let bound = table.bind(rt, pass, port, 9);
+    let exists = table.bind_once(rt, pass, port, 3);
+    let found = table.find(pass, port);
+    let rebound = table.rebind(rt, pass, port, 9, 4);
+    let other = table.bind(rt, pass, second, 2);
+    let released = table.release(rt, pass, second, 2);
     let counted = table.count(pass);
     let worked = table.work(rt, pass);
-    let listed = table.all(rt, pass, 5);
+    let listed = table.all(rt, pass, port);
     [
         bound, exists, found, rebound, other, released, counted, worked, listed,
     ]
@@ -113,16 +114,66 @@ fn makes_each_call(rt: HostRuntime) -> Result<(), Fail> {
     Ok(())
 }
 
+/// The port of net 3 with the number 5.
+const NET_3_PORT_5: Port = Port { net: 3, number: 5 };
+
+/// Binds two ports with one number, each to an owner, looks both up, and walks the table. The owner of the
+/// first one can't release the second.
+fn two_nets<M: Mix, R: Wait>(rt: &R, table: &Table<M>, pass: &mut Pass<M>) -> [Reply; 7]
+    requires pass { IsPassOf M.mix_of table.now pass.old }
+    requires idle { is_idle pass.old.local ≡ true }
+    ensures pass { IsPassOf M.mix_of table.now pass.new }
+{
+    let first = table.bind(rt, pass, Port::plain(5), 9);
+    let second = table.bind(rt, pass, NET_3_PORT_5, 7);
+    let found_first = table.find(pass, Port::plain(5));
+    let found_second = table.find(pass, NET_3_PORT_5);
+    let absent = table.release(rt, pass, NET_3_PORT_5, 9);
+    let counted = table.count(pass);
+    let walked = table.walk(pass, None, 8);
+    [
+        first,
+        second,
+        found_first,
+        found_second,
+        absent,
+        counted,
+        walked,
+    ]
+}
+
+/// With the low hash both have bucket 5, where the second one is the first of the chain. A closed table
+/// lists net 0 first.
+#[test]
+fn two_ports_with_one_number(rt: HostRuntime) -> Result<(), Fail> {
+    let (table, mut pass) = opened::<Low>(&rt, rt.alloc(), SMALL)?;
+    let want = [
+        Reply::Bound { kick: false },
+        Reply::Bound { kick: false },
+        Reply::Found { owner: 9 },
+        Reply::Found { owner: 7 },
+        Reply::Absent,
+        Reply::Counted { count: 2 },
+        Reply::Walked { len: 2, next: None },
+    ];
+    assert_same(&rt, two_nets(&rt, &table, &mut pass), want);
+    let net_3_port_5 = word_of(NET_3_PORT_5);
+    assert_pairs(&rt, pass.pairs(), &[(net_3_port_5, 7), (5, 9)]);
+    let closed = closed(rt.alloc(), table, pass)?;
+    assert_bound(&rt, &closed, 64, &[(5, &[9]), (net_3_port_5, &[7])]);
+    Ok(())
+}
+
 /// Binds four ports in a table of four buckets, and lets it grow.
 fn grow<M: Mix, R: Wait>(rt: &R, table: &Table<M>, pass: &mut Pass<M>) -> [Reply; 5]
     requires pass { IsPassOf M.mix_of table.now pass.old }
     requires idle { is_idle pass.old.local ≡ true }
     ensures pass { IsPassOf M.mix_of table.now pass.new }
 {
-    let first = table.bind(rt, pass, 7, 1);
-    let second = table.bind(rt, pass, 2, 2);
-    let third = table.bind(rt, pass, 11, 3);
-    let fourth = table.bind(rt, pass, 5, 4);
+    let first = table.bind(rt, pass, Port::plain(7), 1);
+    let second = table.bind(rt, pass, Port::plain(2), 2);
+    let third = table.bind(rt, pass, Port::plain(11), 3);
+    let fourth = table.bind(rt, pass, Port::plain(5), 4);
     let worked = table.work(rt, pass);
     [first, second, third, fourth, worked]
 }
@@ -139,7 +190,7 @@ fn a_table_that_has_grown_is_closed(rt: HostRuntime) -> Result<(), Fail> {
     ];
     assert_same(&rt, grow(&rt, &table, &mut pass), want);
     let closed = closed(rt.alloc(), table, pass)?;
-    let bound: [(Port, &[u32]); 4] = [(2, &[2]), (5, &[4]), (7, &[1]), (11, &[3])];
+    let bound: [(u64, &[u32]); 4] = [(2, &[2]), (5, &[4]), (7, &[1]), (11, &[3])];
     assert_bound(&rt, &closed, 8, &bound);
     Ok(())
 }
@@ -152,7 +203,7 @@ fn crowd<M: Mix, R: Wait>(rt: &R, table: &Table<M>, pass: &mut Pass<M>)
     ensures idle { is_idle pass.new.local ≡ true }
 {
     for i in 0..16u32 {
-        table.bind(rt, pass, 64 * i, 1);
+        table.bind(rt, pass, Port::plain(64 * i), 1);
     }
 }
 
@@ -163,11 +214,12 @@ fn crowded<M: Mix, R: Wait>(rt: &R, table: &Table<M>, pass: &mut Pass<M>) -> [Re
     ensures pass { IsPassOf M.mix_of table.now pass.new }
 {
     crowd(rt, table, pass);
-    let first = table.bind_once(rt, pass, 1024, 1);
-    let second = table.bind_once(rt, pass, 1024, 2);
-    let found = table.find(pass, 1024);
-    let absent = table.release(rt, pass, 0, 2);
-    let released = table.release(rt, pass, 0, 1);
+    let (early, late) = (Port::plain(0), Port::plain(1024));
+    let first = table.bind_once(rt, pass, late, 1);
+    let second = table.bind_once(rt, pass, late, 2);
+    let found = table.find(pass, late);
+    let absent = table.release(rt, pass, early, 2);
+    let released = table.release(rt, pass, early, 1);
     [first, second, found, absent, released]
 }
 
@@ -189,17 +241,18 @@ fn a_full_chain_takes_a_further_table(rt: HostRuntime) -> Result<(), Fail> {
     assert_same(&rt, (closed.size, closed.keys), (64, 16));
     let bindings = &closed.bindings;
     assert!(rt; bindings.len() == 16);
-    assert_same(&rt, (bindings.port(0), bindings.port(15)), (64, 1024));
+    let ends = (word_of(bindings.port(0)), word_of(bindings.port(15)));
+    assert_same(&rt, ends, (64, 1024));
     assert_same(&rt, bindings.owners(15), &[2]);
     Ok(())
 }
 
-/// Binds a port by a command.
+/// Binds the port of net 0 with this number by a command.
 fn command<M: Mix, R: Wait>(
     rt: &R,
     table: &Table<M>,
     pass: &mut Pass<M>,
-    port: Port,
+    number: u32,
     owner: u32,
     auto: bool,
 ) -> Reply
@@ -208,8 +261,12 @@ fn command<M: Mix, R: Wait>(
     ensures pass { IsPassOf M.mix_of table.now pass.new }
     ensures idle { is_idle pass.new.local ≡ true }
 {
-    let once = false;
-    table.serve(rt, pass, Call::Bind { port, owner, once }, auto)
+    let call = Call::Bind {
+        port: Port::plain(number),
+        owner,
+        once: false,
+    };
+    table.serve(rt, pass, call, auto)
 }
 
 /// The four ports of `grow`, bound by commands.
@@ -254,14 +311,15 @@ fn hand_over<M: Mix, R: Wait>(
     requires first { IsPassOf M.mix_of table.now first.old × (is_idle first.old.local ≡ true) }
     requires second { IsPassOf M.mix_of table.now second.old × (is_idle second.old.local ≡ true) }
 {
-    let bound = table.bind(rt, first, 5, 9);
-    let released = table.release(rt, first, 5, 9);
-    let refused = table.bind(rt, second, 6, 2);
+    let (port, other) = (Port::plain(5), Port::plain(6));
+    let bound = table.bind(rt, first, port, 9);
+    let released = table.release(rt, first, port, 9);
+    let refused = table.bind(rt, second, other, 2);
     let others = table.tidy(second);
     let own = table.tidy(first);
     let again = table.tidy(first);
-    let taken = table.bind(rt, second, 6, 2);
-    let found = table.find(first, 6);
+    let taken = table.bind(rt, second, other, 2);
+    let found = table.find(first, other);
     [bound, released, refused, others, own, again, taken, found]
 }
 
@@ -297,9 +355,9 @@ fn bind_three<M: Mix, R: Wait>(rt: &R, table: &Table<M>, pass: &mut Pass<M>)
     ensures pass { IsPassOf M.mix_of table.now pass.new }
     ensures idle { is_idle pass.new.local ≡ true }
 {
-    table.bind(rt, pass, 7, 1);
-    table.bind(rt, pass, 2, 2);
-    table.bind(rt, pass, 5, 4);
+    table.bind(rt, pass, Port::plain(7), 1);
+    table.bind(rt, pass, Port::plain(2), 2);
+    table.bind(rt, pass, Port::plain(5), 4);
 }
 
 /// Walks from this cursor on, or from the first bucket.
@@ -319,7 +377,7 @@ fn a_walk_shows_each_port(rt: HostRuntime) -> Result<(), Fail> {
     bind_three(&rt, &table, &mut pass);
     let whole = walk(&table, &mut pass, None, 8);
     assert_same(&rt, whole, Reply::Walked { len: 3, next: None });
-    assert_same(&rt, pass.pairs(), &[(5, 4), (2, 2), (7, 1)]);
+    assert_pairs(&rt, pass.pairs(), &[(5, 4), (2, 2), (7, 1)]);
     let behind_first = Some(Cursor {
         serial: 0,
         bucket: 2,
@@ -333,7 +391,7 @@ fn a_walk_shows_each_port(rt: HostRuntime) -> Result<(), Fail> {
             next: behind_first,
         },
     );
-    assert_same(&rt, pass.pairs(), &[(5, 4)]);
+    assert_pairs(&rt, pass.pairs(), &[(5, 4)]);
     let behind_second = Some(Cursor {
         serial: 0,
         bucket: 3,
@@ -347,10 +405,10 @@ fn a_walk_shows_each_port(rt: HostRuntime) -> Result<(), Fail> {
             next: behind_second,
         },
     );
-    assert_same(&rt, pass.pairs(), &[(2, 2)]);
+    assert_pairs(&rt, pass.pairs(), &[(2, 2)]);
     let last = walk(&table, &mut pass, behind_second, 1);
     assert_same(&rt, last, Reply::Walked { len: 1, next: None });
-    assert_same(&rt, pass.pairs(), &[(7, 1)]);
+    assert_pairs(&rt, pass.pairs(), &[(7, 1)]);
     // The table has no fifth bucket, so the walk begins anew.
     let beyond = Some(Cursor {
         serial: 0,
@@ -369,7 +427,7 @@ fn move_on<M: Mix, R: Wait>(rt: &R, table: &Table<M>, pass: &mut Pass<M>) -> [Re
     ensures pass { IsPassOf M.mix_of table.now pass.new }
     ensures idle { is_idle pass.new.local ≡ true }
 {
-    let bound = table.bind(rt, pass, 11, 3);
+    let bound = table.bind(rt, pass, Port::plain(11), 3);
     let moved = table.work(rt, pass);
     let idle = table.work(rt, pass);
     [bound, moved, idle]
@@ -382,9 +440,9 @@ fn move_back<M: Mix, R: Wait>(rt: &R, table: &Table<M>, pass: &mut Pass<M>) -> [
     ensures pass { IsPassOf M.mix_of table.now pass.new }
     ensures idle { is_idle pass.new.local ≡ true }
 {
-    let first = table.release(rt, pass, 11, 3);
-    let second = table.release(rt, pass, 5, 4);
-    let third = table.release(rt, pass, 2, 2);
+    let first = table.release(rt, pass, Port::plain(11), 3);
+    let second = table.release(rt, pass, Port::plain(5), 4);
+    let third = table.release(rt, pass, Port::plain(2), 2);
     let moved = table.work(rt, pass);
     [first, second, third, moved]
 }
@@ -427,6 +485,6 @@ fn a_cursor_fits_no_later_table(rt: HostRuntime) -> Result<(), Fail> {
     // Port 7 is in the last bucket.
     let anew = walk(&table, &mut pass, None, 1);
     assert_same(&rt, anew, Reply::Walked { len: 1, next: None });
-    assert_same(&rt, pass.pairs(), &[(7, 1)]);
+    assert_pairs(&rt, pass.pairs(), &[(7, 1)]);
     Ok(())
 }

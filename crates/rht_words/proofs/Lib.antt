@@ -8,6 +8,8 @@ pub mod StartingSizes
 pub mod WordChanges
 -- on which words machines work, and that what they store is a word
 pub mod PlannedWords
+-- ports and their key words
+mod PortWords
 -- what links, bucket words and entries say comes back from the words that are made of it, and names nothing that isn't there
 pub mod LinksRead
 -- the lowest set bit of a map's word stands for one of so many

@@ -1,7 +1,7 @@
 -- What follows from the definitions alone.
-use Rattle.std.specs.Prelude.{◌≡◌, ◌≢◌, ◌↔◌, ℕ, ◌*◌, ◌/◌, ◌%◌, ◌^◌, ◌<◌, ◌≤◌, bit_and, bit_or, List, length, Some, None}
+use Rattle.std.specs.Prelude.{◌≡◌, ◌≢◌, ◌↔◌, ◌⊎◌, ℕ, ◌*◌, ◌/◌, ◌%◌, ◌^◌, ◌<◌, ◌≤◌, bit_and, bit_or, List, length, Some, None}
 use Rattle.std.specs.Int.{bit_at, bit_not, w64}
-use Rattle.rht_words.specs.Ports.{word_of, port_of}
+use Rattle.rht_words.specs.Ports.{port_at, net_of, number_of, IsPort, word_of, port_of}
 use Rattle.rht_words.specs.Sizes.{rounded_up, rounded_down, first_size, IsSizeUpTo, IsLeastPower, IsGreatestPower}
 use Rattle.rht_words.specs.Limits.{max_limits}
 use Rattle.rht_words.specs.Settled.{IsSettled}
@@ -17,9 +17,18 @@ use Rattle.rht_words.specs.declared.op.Op.{Op}
 use Rattle.rht_words.specs.declared.geometry.Geometry.{Geometry}
 use Rattle.rht_words.specs.declared.shape.Shape.{Shape}
 
--- a port comes back from its key word
-abbrev pub PortsComeBack : Type 0
-PortsComeBack = (port : ℕ) → port < 2 ^ 32 → port_of (word_of port) ≡ port
+-- A port comes back from its key word, and from its net and its number. Two ports have one key word only if they are one. Key words
+-- stand in the order of nets, and of numbers in one net.
+pub record PortsComeBack : Type 0 where
+  pub from_word : (port : ℕ) → IsPort port → port_of (word_of port) ≡ port
+  pub from_both : (port : ℕ) → port_at (net_of port) (number_of port) ≡ port
+  pub within : (net number : ℕ) → net < 2 ^ 16 → number < 2 ^ 32 → IsPort (port_at net number)
+  pub net_back : (net number : ℕ) → number < 2 ^ 32 → net_of (port_at net number) ≡ net
+  pub number_back : (net number : ℕ) → number < 2 ^ 32 → number_of (port_at net number) ≡ number
+  pub one_word : (port other : ℕ) → word_of port ≡ word_of other → (net_of port ≡ net_of other) × (number_of port ≡ number_of other)
+  pub in_order : (port other : ℕ)
+      → word_of port < word_of other
+      ↔ (net_of port < net_of other) ⊎ ((net_of port ≡ net_of other) × (number_of port < number_of other))
 
 -- rounding gives the power of two that lies next, up or down
 pub record RoundsToNext : Type 0 where

@@ -2,7 +2,7 @@
 
 ghost use Rattle.rht_words.specs.Laws.{PortsComeBack, RoundsToNext, TablesStartWithin, PlacesNeverMeet, OperationsChangeOneWord, LinksTellApart, HeadsComeBack, EntriesComeBack, ShapesComeBack, WordsOpen, TablesOpenFlat, MapsOpenFree, MasksChangeOneBit};
 
-/// A port comes back from its key word.
+/// A port comes back from its key word, and from its net and its number; key words keep the order of ports.
 pub fn ports_come_back()
     ensures { PortsComeBack }
 {}

@@ -1,9 +1,9 @@
 //! Numbers worked out by hand from the layout and the formulas.
 
 use super::{
-    Config, Env, Geometry, Op, Shape, apply, entry_of, future_of, head_of, is_locked, link_of,
-    marker_of, node_of, opening_word, page_of, places, plain_of, port_of, rounded_down, rounded_up,
-    slot_of, starting_size, unlocked, word_of,
+    Config, Env, Geometry, Op, Port, Shape, apply, entry_of, future_of, head_of, is_locked,
+    link_of, marker_of, node_of, opening_word, page_of, places, plain_of, port_of, rounded_down,
+    rounded_up, slot_of, starting_size, unlocked, word_of,
 };
 use std::fmt::Debug;
 use std::process::Abort;
@@ -251,10 +251,20 @@ fn shapes_come_back_from_their_words(rt: HostRuntime) {
 
 #[test]
 fn ports_come_back_from_their_words(rt: HostRuntime) {
-    for port in [0, 1, 8_080, 4_294_967_295] {
-        assert_same(&rt, port_of(word_of(port)), port);
+    for net in [0, 1, 3, 65_535] {
+        for number in [0, 1, 8_080, 4_294_967_295] {
+            let port = Port { net, number };
+            assert_same(&rt, port_of(word_of(port)), port);
+        }
     }
-    assert_same(&rt, word_of(8_080), 8_080);
+    assert_same(&rt, word_of(Port::plain(8_080)), 8_080);
+    // 3 * 2^32 + 80.
+    let third = Port { net: 3, number: 80 };
+    assert_same(&rt, word_of(third), 12_884_901_968);
+    assert_same(&rt, third > Port { net: 2, number: 81 }, true);
+    assert_same(&rt, third > Port { net: 3, number: 79 }, true);
+    // A word past 48 bits is no port's.
+    assert_same(&rt, port_of(1 << 48), Port::plain(0));
 }
 
 #[test]

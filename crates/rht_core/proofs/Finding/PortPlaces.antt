@@ -8,6 +8,7 @@ use Rattle.rht_words.specs.Links.{link_of, marker_of, head_of}
 use Rattle.rht_words.specs.Members.{In}
 use Rattle.rht_words.specs.Shapes.{unpacked, size_of}
 use Rattle.rht_words.proofs.Memory.{Memory}
+use Rattle.rht_words.specs.Ports.{IsPort}
 use Rattle.rht_ghost.proofs.Theory.Ghosts.{Leaving, Ghost, HasSeat, PageOf, seat_of, table_at, some-same}
 use Rattle.rht_ghost.proofs.Theory.Passed.{hash-below, place-word, place-table, home-word}
 use Rattle.rht_ghost.proofs.Theory.Wholes.{chain_of, key_of, hash_in, home, place_at, stop, ChainedRight, Whole, IsThere, force-there, seated_at}
@@ -64,7 +65,7 @@ module _ (env : Env) (mix : ℕ → ℕ → ℕ → ℕ) where
 
   pub record PortPlacesRight (M : Memory) (G : Ghost) (P : Places) (now : ℕ) : Type 0 where
     pub homes : (i n p : ℕ) → P.place i n ≡ Some p → IsPlaceOf G (key_of M n) i
-    pub small : (i n p : ℕ) → P.place i n ≡ Some p → key_of M n < 2 ^ 32
+    pub small : (i n p : ℕ) → P.place i n ≡ Some p → IsPort (key_of M n)
     pub died : (i n p : ℕ) → P.place i n ≡ Some p → HasSeat G n ⊎ HasDied G P now n
     pub newest : (i n m p q : ℕ) → P.place i n ≡ Some p → P.place i m ≡ Some q → key_of M n ≡ key_of M m → p < q
         → IsReplaced G P (key_of M n) n q

@@ -4,6 +4,7 @@ use Rattle.rht_words.specs.declared.env.Env.{Env}
 use Rattle.rht_words.specs.Places.{Node, NodeWord, ChainLink, KeyWord}
 use Rattle.rht_words.proofs.LinksRead.{links_tell_apart}
 use Rattle.rht_words.proofs.Memory.{Memory}
+use Rattle.rht_words.specs.Ports.{IsPort}
 use Rattle.rht_ghost.proofs.Theory.Ghosts.{Free, Taken, Ghost, seat_of, with_owner}
 use Rattle.rht_ghost.proofs.Theory.Wholes.{chain_of, key_of, Whole}
 use Rattle.rht_ghost.proofs.Theory.SeatedLinks.{next_of}
@@ -75,7 +76,7 @@ module _ (env : Env) (mix : ℕ → ℕ → ℕ → ℕ) (now c n : ℕ) (M M' :
         let key = key_same i m p old.1 in
         subst (λ k. IsPlaceOf env mix G' k i) (sym key) (record { here = of.here; attached = of.attached });
     small = λ i m p is.
-        let old = was i m p is in subst (λ k. k < 2 ^ 32) (sym (key_same i m p old.1)) (of_ports.small i m p old.1);
+        let old = was i m p is in subst IsPort (sym (key_same i m p old.1)) (of_ports.small i m p old.1);
     died = λ i m p is.
         let old = was i m p is in
         elim (of_ports.died i m p old.1) [

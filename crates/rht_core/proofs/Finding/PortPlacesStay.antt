@@ -3,6 +3,7 @@ use Rattle.std.proofs.Common.{◌≡◌, ◌⊎◌, ℕ, ◌+◌, ◌/◌, ◌^�
 use Rattle.rht_words.specs.declared.env.Env.{Env}
 use Rattle.rht_words.specs.Members.{In}
 use Rattle.rht_words.proofs.Memory.{Memory}
+use Rattle.rht_words.specs.Ports.{IsPort}
 use Rattle.rht_ghost.proofs.Theory.Ghosts.{Ghost, HasSeat, seat_of, table_at, none-some, some-same}
 use Rattle.rht_ghost.proofs.Theory.Wholes.{chain_of, key_of, home, Whole, seated_at}
 use Rattle.rht_ghost.proofs.Theory.Passed.{GrowsFrom, home-from}
@@ -201,9 +202,9 @@ module _ (env : Env) (mix : ℕ → ℕ → ℕ → ℕ) (now : ℕ) (M : Memory
         record { here = at.here; attached = at.attached }
   ]
 
-  small_then : (i n p : ℕ) → P'.place i n ≡ Some p → key_of M' n < 2 ^ 32
+  small_then : (i n p : ℕ) → P'.place i n ≡ Some p → IsPort (key_of M' n)
   small_then i n p is = elim (new_place (key_of M' n) i n p refl is) [
-    | inl was ↦ subst (λ k. k < 2 ^ 32) (sym (key_stays i n p was)) (of_ports.small i n p was)
+    | inl was ↦ subst IsPort (sym (key_stays i n p was)) (of_ports.small i n p was)
     | inr new ↦
         let at = seated_at env mix M' G' whole' n i new.seat in
         whole'.owned.small (key_of M' n) n at.behind at.bound_to

@@ -28,6 +28,7 @@ use Rattle.rht_release.specs.declared.all.AllAt.{AllAt}
 use Rattle.rht_callers.specs.PortCounts.{count_plan_in}
 use Rattle.rht_core.specs.Jobs.{listing_ending, node_ending, Job, finds, binds, releases, rebinds, lists, works, tidies, tidying, tidied, walks, walk_ending, walk_gone, counts, call_of, job_plan, job_next, job_after, held_of, held_next}
 use Rattle.rht_words.specs.declared.config.Kind.TheVariants.{Single}
+use Rattle.rht_words.specs.Ports.{IsPort}
 use Rattle.rht_release.specs.Release.{IsReleaseAtIn}
 use Rattle.rht_release.specs.Release as release_at
 use Rattle.rht_release.specs.declared.release.ReleaseAt.{ReleaseAt}
@@ -107,9 +108,9 @@ IsThereNext (job, Done ending) M = ⊥
 abbrev pub holds_no : Holding
 holds_no = held.holds_nothing
 
--- all that a bind names is the table's, and its port and its owner have 32 bits
+-- all that a bind names is the table's, its port is one, and its owner has 32 bits
 pub record IsBindingIn (env : Env) (port owner : ℕ) (state : BindAt) : Type 0 where
-  pub port_in : port < 2 ^ 32
+  pub port_in : IsPort port
   pub owner_in : owner < 2 ^ 32
   pub at_in : IsBindAtIn env state
 

@@ -9,6 +9,7 @@ use Rattle.rht_words.specs.Places.{IsBucketPlace}
 use Rattle.rht_words.specs.declared.op.Op.TheVariants.{Load}
 use Rattle.rht_words.specs.Shapes.{unpacked, size_of}
 use Rattle.rht_words.proofs.Memory.{Memory}
+use Rattle.rht_words.specs.Ports.{IsPort}
 use Rattle.rht_model.specs.declared.history.Cursor.{Cursor}
 use Rattle.rht_walk.specs.Walk.{IsVisitIn, chain_of as chain_at, one_more}
 use Rattle.rht_walk.specs.declared.walk.Visit.{Visit}
@@ -229,7 +230,7 @@ module _ (env : Env) (mix : ℕ → ℕ → ℕ → ℕ) (from : Option Cursor) 
             let from = late.late in
             omega (arith, same, early, from)
 
-    pub key_known : (key : ℕ) → (key_of M m < 2 ^ 32 → key_of M m ≡ key) → seen m ≡ true
+    pub key_known : (key : ℕ) → (IsPort (key_of M m) → key_of M m ≡ key) → seen m ≡ true
         → InChain chain m (AtKeyHere chain m) (λ at. at + 1)
         → IsAtOwner env mix from begin now Missed WasLast Bound seen items M G P chain m key
     key_known key is stood at = record {

@@ -11,7 +11,7 @@ use Rattle.rht_words.specs.declared.machine.Start.TheVariants as starts
 use Rattle.rht_words.specs.Links.{link_of, marker_of, node_of, head_of, slot_of, table_of, page_of}
 use Rattle.rht_words.specs.Operations.{old_of}
 use Rattle.rht_words.specs.Places.{CurrentTable, Slot, FutureWord, SerialWord, PageWord, Node, OwnerWord, place_of}
-use Rattle.rht_words.specs.Ports.{owner_of}
+use Rattle.rht_words.specs.Ports.{IsPort, port_of, owner_of}
 use Rattle.rht_words.specs.declared.op.Op.TheVariants.{Load}
 use Rattle.rht_words.proofs.LinksRead.{links_tell_apart}
 use Rattle.rht_words.proofs.Memory.{Memory}
@@ -214,9 +214,9 @@ module _ (env : Env) (mix : ℕ → ℕ → ℕ → ℕ) (from : Option Cursor) 
     walk_leads (at.Key chain node) within tied met known =
         key_known env mix from begin now Missed WasLast Bound seen items words G P whole right deaths of_ports chain node within.visit_in
         tied
-        (key_of M node % 2 ^ 32) (λ small. small_port (key_of M node) small) met.0 known
+        (port_of (key_of M node)) (λ small. small_port (key_of M node) small) met.0 known
       where
-        small_port : (word : ℕ) → word < 2 ^ 32 → word ≡ word % 2 ^ 32
+        small_port : (word : ℕ) → IsPort word → word ≡ port_of word
         small_port word small = omega (arith, small)
     walk_leads (at.Owner chain node port) within tied met known =
         let owner = owner_of (M (Node node OwnerWord)) in

@@ -1,10 +1,11 @@
 //! Binds, look-ups, releases and counts in a table of one owner for each port.
 
+use super::asked::Asked;
 use super::{
-    BOUND, FIND_5, RELEASED, assert_run, begins, bind, ends, enrolls, filled, for_two, linked,
-    located, opened, release, replies, small, steps,
+    BOUND, FIND_5, NET_3_PORT_5, RELEASED, assert_run, begins, bind, ends, enrolls, filled,
+    for_two, linked, located, opened, release, replies, small, steps,
 };
-use rht_model::{Call, Reply};
+use rht_model::Reply;
 use rht_policy::{Lookup3, Low};
 use rht_words::{Config, Hash, Op};
 use std::test::Fail;
@@ -49,15 +50,15 @@ fn releases_and_counts(rt: HostRuntime) -> Result<(), Fail> {
         small(),
         &[
             enrolls(0),
-            replies(Call::Count, Reply::Counted { count: 0 }),
+            replies(Asked::Count, Reply::Counted { count: 0 }),
             replies(release(5, 9), absent),
             replies(bind(5, 9), BOUND),
             replies(bind(69, 7), BOUND),
-            begins(0, Call::Count),
+            begins(0, Asked::Count),
             ends(
                 0,
                 &[(Op::load(2), 2)],
-                Call::Count,
+                Asked::Count,
                 Reply::Counted { count: 2 },
             ),
             replies(release(5, 7), absent),
@@ -65,12 +66,12 @@ fn releases_and_counts(rt: HostRuntime) -> Result<(), Fail> {
             replies(release(5, 9), RELEASED),
             replies(release(5, 9), absent),
             replies(FIND_5, Reply::Missing),
-            replies(Call::Find { port: 69 }, found),
-            replies(Call::Count, Reply::Counted { count: 1 }),
+            replies(Asked::Find { port: 69 }, found),
+            replies(Asked::Count, Reply::Counted { count: 1 }),
             replies(bind(5, 3), BOUND),
             replies(release(69, 7), RELEASED),
             replies(release(5, 3), RELEASED),
-            replies(Call::Count, Reply::Counted { count: 0 }),
+            replies(Asked::Count, Reply::Counted { count: 0 }),
         ],
     )
 }
@@ -138,6 +139,65 @@ fn two_callers_at_one_bucket(rt: HostRuntime) -> Result<(), Fail> {
     )
 }
 
+/// Port 5 of net 3 has the bucket of port 5 too, and another key word: both are in the chain.
+#[test]
+fn two_ports_with_one_number(rt: HostRuntime) -> Result<(), Fail> {
+    let find_net_3 = Asked::Find { port: NET_3_PORT_5 };
+    let linked_before = [
+        (Op::load(319), 2),
+        (Op::exchange(319, 2, 3), 2),
+        (Op::load(283), 5),
+        (Op::load(282), 639),
+        (Op::load(26), 0),
+        (Op::load(2), 1),
+        (Op::store(286, 2), 0),
+        (Op::add(2, 1), 1),
+        (Op::store(319, 4), 3),
+        (Op::add(8, 1), 3),
+    ];
+    let found_second = [
+        (Op::load(319), 4),
+        (Op::load(287), NET_3_PORT_5),
+        (Op::load(286), 2),
+        (Op::load(283), 5),
+        (Op::load(284), 9),
+        (Op::add(8, 1), 5),
+    ];
+    let found_first = [
+        (Op::load(319), 4),
+        (Op::load(287), NET_3_PORT_5),
+        (Op::load(288), 7),
+        (Op::add(8, 1), 7),
+    ];
+    assert_run::<Low>(
+        &rt,
+        rt.alloc(),
+        small(),
+        &[
+            enrolls(0),
+            replies(bind(5, 9), BOUND),
+            begins(0, bind(NET_3_PORT_5, 7)),
+            steps(0, &filled(254, 1, NET_3_PORT_5, 7)),
+            steps(0, &opened(0, 2)),
+            steps(0, &located(1)),
+            ends(0, &linked_before, bind(NET_3_PORT_5, 7), BOUND),
+            begins(0, FIND_5),
+            steps(0, &opened(0, 4)),
+            steps(0, &located(1)),
+            ends(0, &found_second, FIND_5, Reply::Found { owner: 9 }),
+            begins(0, find_net_3),
+            steps(0, &opened(0, 6)),
+            steps(0, &located(1)),
+            ends(0, &found_first, find_net_3, Reply::Found { owner: 7 }),
+            replies(bind(NET_3_PORT_5, 3), Reply::Exists { owner: 7 }),
+            replies(release(NET_3_PORT_5, 9), Reply::Absent),
+            replies(release(5, 9), RELEASED),
+            replies(FIND_5, Reply::Missing),
+            replies(find_net_3, Reply::Found { owner: 7 }),
+        ],
+    )
+}
+
 #[test]
 fn a_table_with_the_mixed_hash(rt: HostRuntime) -> Result<(), Fail> {
     let config = Config {
@@ -153,7 +213,7 @@ fn a_table_with_the_mixed_hash(rt: HostRuntime) -> Result<(), Fail> {
         (Op::load(284), 8),
         (Op::add(8, 1), 3),
     ];
-    let find = Call::Find { port: 1 };
+    let find = Asked::Find { port: 1 };
     assert_run::<Lookup3>(
         &rt,
         rt.alloc(),
@@ -169,8 +229,8 @@ fn a_table_with_the_mixed_hash(rt: HostRuntime) -> Result<(), Fail> {
             replies(bind(69, 7), BOUND),
             replies(bind(5, 3), Reply::Exists { owner: 9 }),
             replies(FIND_5, Reply::Found { owner: 9 }),
-            replies(Call::Find { port: 69 }, Reply::Found { owner: 7 }),
-            replies(Call::Find { port: 6 }, Reply::Missing),
+            replies(Asked::Find { port: 69 }, Reply::Found { owner: 7 }),
+            replies(Asked::Find { port: 6 }, Reply::Missing),
         ],
     )
 }

@@ -2,11 +2,12 @@
 
 ghost use Rattle.std.specs.Prelude.{◌≡◌};
 
-use super::{FIND_5, assert_owners, assert_same, bind, reply_to, small};
+use super::asked::Asked;
+use super::{FIND_5, NET_3_PORT_5, assert_owners, assert_same, bind, reply_to, small};
 use rht_core::{Event, State};
-use rht_model::{Call, Closed};
+use rht_model::Closed;
 use rht_policy::Low;
-use rht_words::{Geometry, Port};
+use rht_words::{Geometry, word_of};
 use std::alloc::Global;
 use std::process::Abort;
 use std::test::Fail;
@@ -21,26 +22,26 @@ fn closed_at(rt: &impl Abort, state: &State<Low>) -> Result<Closed, Fail>
 }
 
 /// What a small table holds at its closing, when its caller has made these calls.
-fn closed_after(rt: &impl Abort, alloc: Global, calls: &[Call]) -> Result<Closed, Fail> {
+fn closed_after(rt: &impl Abort, alloc: Global, calls: &[Asked]) -> Result<Closed, Fail> {
     let config = small();
     assert!(rt; config.is_settled());
     assert!(rt; config.callers == 1);
     let mut state = State::<Low>::open(alloc, config)?;
     state.step(Event::Enroll);
-    for call in calls {
-        reply_to(rt, &mut state, 0, *call);
+    for asked in calls {
+        reply_to(rt, &mut state, 0, *asked);
     }
     closed_at(rt, &state)
 }
 
 /// A table of 64 buckets was closed with these ports and their owners.
-fn assert_closed<'a>(rt: &impl Abort, closed: &Closed, keys: u32, want: &'a [(Port, &'a [u32])]) {
+fn assert_closed<'a>(rt: &impl Abort, closed: &Closed, keys: u32, want: &'a [(u64, &'a [u32])]) {
     assert_same(rt, (closed.size, closed.keys), (64, keys));
     assert_same(rt, closed.bindings.len(), want.len());
     for i in 0..want.len() {
         let (port, owners) = want[i];
         assert!(rt; i < closed.bindings.len());
-        assert_same(rt, (i, closed.bindings.port(i)), (i, port));
+        assert_same(rt, (i, word_of(closed.bindings.port(i))), (i, port));
         assert_same(rt, (i, closed.bindings.owners(i)), (i, owners));
     }
 }
@@ -49,9 +50,11 @@ fn assert_closed<'a>(rt: &impl Abort, closed: &Closed, keys: u32, want: &'a [(Po
 fn a_closed_table_lists_what_is_bound(rt: HostRuntime) -> Result<(), Fail> {
     let nothing = closed_after(&rt, rt.alloc(), &[])?;
     assert_closed(&rt, &nothing, 0, &[]);
-    // Ports 69 and 5 are in bucket 5, port 1000 in bucket 40, and port 2 in bucket 2.
+    // Ports 69 and 5 are in bucket 5, and so is 5 of net 3, port 1000 in bucket 40, and port 2 in bucket 2.
+    // Net 3 is behind net 0, whatever the numbers.
     let calls = [
         bind(1000, 9),
+        bind(NET_3_PORT_5, 8),
         bind(5, 9),
         bind(69, 7),
         bind(5, 3),
@@ -59,8 +62,14 @@ fn a_closed_table_lists_what_is_bound(rt: HostRuntime) -> Result<(), Fail> {
         bind(2, 1),
     ];
     let closed = closed_after(&rt, rt.alloc(), &calls)?;
-    let want: [(Port, &[u32]); 4] = [(2, &[1]), (5, &[9]), (69, &[7]), (1000, &[9])];
-    assert_closed(&rt, &closed, 4, &want);
+    let want: [(u64, &[u32]); 5] = [
+        (2, &[1]),
+        (5, &[9]),
+        (69, &[7]),
+        (1000, &[9]),
+        (NET_3_PORT_5, &[8]),
+    ];
+    assert_closed(&rt, &closed, 5, &want);
     Ok(())
 }
 
@@ -110,7 +119,7 @@ fn owners_in_words_that_no_run_gives(rt: HostRuntime) -> Result<(), Fail> {
         (301, 10),
     ];
     let words = words_with(rt.alloc(), geometry, &[&tables, &first, &second])?;
-    let cases: [(Port, &[u32]); 3] = [(5, &[9, 7, 3]), (6, &[2; 8]), (7, &[])];
+    let cases: [(u64, &[u32]); 3] = [(5, &[9, 7, 3]), (6, &[2; 8]), (7, &[])];
     for (port, want) in cases {
         assert_owners(&rt, rt.alloc(), geometry, words.as_slice(), port, want)?;
     }

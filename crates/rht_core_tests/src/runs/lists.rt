@@ -1,11 +1,12 @@
 //! A table of a list of owners for each port.
 
+use super::asked::Asked;
 use super::{
     BOUND, FIND_5, RELEASED, assert_run, assert_same, begin, begins, bind, ends, enrolls, filled,
     linked, located, opened, release, replies, reply_to, small, steps,
 };
 use rht_core::{Event, State};
-use rht_model::{Call, Reply};
+use rht_model::Reply;
 use rht_policy::Low;
 use rht_words::{Config, Kind, Op};
 use std::test::Fail;
@@ -81,7 +82,7 @@ fn releases_from_lists(rt: HostRuntime) -> Result<(), Fail> {
             replies(bind(5, 3), BOUND),
             replies(bind(5, 9), BOUND),
             replies(bind(5, 4), BOUND),
-            replies(Call::Count, Reply::Counted { count: 2 }),
+            replies(Asked::Count, Reply::Counted { count: 2 }),
             // The second of the list, the first, the last and the only one.
             replies(release(5, 9), RELEASED),
             replies(release(5, 4), RELEASED),
@@ -90,7 +91,7 @@ fn releases_from_lists(rt: HostRuntime) -> Result<(), Fail> {
             replies(FIND_5, Reply::Found { owner: 3 }),
             replies(release(5, 3), RELEASED),
             replies(FIND_5, Reply::Missing),
-            replies(Call::Count, Reply::Counted { count: 1 }),
+            replies(Asked::Count, Reply::Counted { count: 1 }),
         ],
     )
 }
@@ -109,15 +110,15 @@ fn a_port_lists_its_owners(rt: HostRuntime) -> Result<(), Fail> {
     reply_to(&rt, &mut state, 0, bind(5, 3));
     reply_to(&rt, &mut state, 0, bind(5, 7));
     // The latest owner comes first.
-    let listed = reply_to(&rt, &mut state, 0, Call::All { port: 5 });
+    let listed = reply_to(&rt, &mut state, 0, Asked::All { port: 5 });
     assert_same(&rt, listed, Some(Reply::Listed { len: 3 }));
     assert_same(&rt, state.local(0).owners(), &[7, 3, 9]);
     // A port that isn't bound has none, and those of the call before have gone.
-    let unbound = reply_to(&rt, &mut state, 0, Call::All { port: 6 });
+    let unbound = reply_to(&rt, &mut state, 0, Asked::All { port: 6 });
     assert_same(&rt, unbound, Some(Reply::Listed { len: 0 }));
     assert!(rt; state.local(0).owners().is_empty());
     // The room has come back each time, so there is one for a further listing.
-    let again = reply_to(&rt, &mut state, 0, Call::All { port: 5 });
+    let again = reply_to(&rt, &mut state, 0, Asked::All { port: 5 });
     assert_same(&rt, again, Some(Reply::Listed { len: 3 }));
     assert_same(&rt, state.local(0).owners(), &[7, 3, 9]);
     // Once a call begins that has no list, the owners have gone.

@@ -1,16 +1,17 @@
 //! What isn't begun, a walk that is, and binds that are refused.
 
+use super::asked::Asked;
 use super::{
     BOUND, FIND_5, assert_run, begins, bind, ends, enrolls, for_two, idles, replies, small, steps,
 };
-use rht_model::{Call, Cursor, Reply};
+use rht_model::{Cursor, Reply};
 use rht_policy::Low;
 use rht_words::{Config, Op};
 use std::test::Fail;
 
 #[test]
 fn a_walk_shows_what_is_bound(rt: HostRuntime) -> Result<(), Fail> {
-    let walk = |from, limit| Call::Walk { from, limit };
+    let walk = |from, limit| Asked::Walk { from, limit };
     let ended = |len| Reply::Walked { len, next: None };
     // The first table has the serial 0, and port 5 is in its bucket 5.
     let next = Some(Cursor {

@@ -1,11 +1,12 @@
 //! Tables that are attached, and resizings that move entries.
 
+use super::asked::Asked;
 use super::{
     BOUND, FIND_5, RELEASED, assert_run, assert_same, begins, bind, ends, enrolls, filled,
     finishes, for_two, opened, release, replies, reply_to, small, steps,
 };
 use rht_core::{Event, State};
-use rht_model::{Call, Reply};
+use rht_model::Reply;
 use rht_policy::Low;
 use rht_words::{Config, Op};
 use std::process::Abort;
@@ -25,19 +26,19 @@ fn a_table_is_resized(rt: HostRuntime) -> Result<(), Fail> {
         config,
         &[
             enrolls(0),
-            replies(Call::Work, Reply::Idle),
+            replies(Asked::Work, Reply::Idle),
             replies(bind(0, 1), BOUND),
             replies(bind(1, 2), BOUND),
             replies(bind(5, 3), BOUND),
-            replies(Call::Work, Reply::Idle),
+            replies(Asked::Work, Reply::Idle),
             // The fourth port is more than three quarters of 4 buckets.
             replies(bind(8, 4), grows),
-            replies(Call::Work, Reply::Moved { again: false }),
-            replies(Call::Work, Reply::Idle),
+            replies(Asked::Work, Reply::Moved { again: false }),
+            replies(Asked::Work, Reply::Idle),
             replies(FIND_5, Reply::Found { owner: 3 }),
             replies(release(8, 4), RELEASED),
             replies(bind(69, 5), BOUND),
-            replies(Call::Count, Reply::Counted { count: 4 }),
+            replies(Asked::Count, Reply::Counted { count: 4 }),
         ],
     )
 }
@@ -222,7 +223,7 @@ fn a_mover_is_overtaken_by_an_attach(rt: HostRuntime) -> Result<(), Fail> {
             replies(bind(1, 2), BOUND),
             replies(bind(5, 3), BOUND),
             replies(bind(6, 4), grows),
-            begins(1, Call::Work),
+            begins(1, Asked::Work),
             steps(1, &[(Op::exchange(1, 0, 1), 0)]),
             steps(1, &one_table()),
             steps(1, &begun),
@@ -238,20 +239,20 @@ fn a_mover_is_overtaken_by_an_attach(rt: HostRuntime) -> Result<(), Fail> {
             replies(bind(13, 10), grows),
             steps(1, &emptied),
             steps(1, &second_moved),
-            finishes(1, Call::Work, Reply::Moved { again: true }),
+            finishes(1, Asked::Work, Reply::Moved { again: true }),
             replies(FIND_5, Reply::Found { owner: 3 }),
-            replies(Call::Work, Reply::Moved { again: false }),
-            replies(Call::Work, Reply::Idle),
+            replies(Asked::Work, Reply::Moved { again: false }),
+            replies(Asked::Work, Reply::Idle),
             replies(FIND_5, Reply::Found { owner: 3 }),
-            replies(Call::Count, Reply::Counted { count: 10 }),
+            replies(Asked::Count, Reply::Counted { count: 10 }),
         ],
     )
 }
 
 /// The first caller is given the call, which runs to this reply.
-fn assert_told(rt: &impl Abort, state: &mut State<Low>, call: Call, reply: Reply) {
-    let found = reply_to(rt, state, 0, call);
-    assert_same(rt, (call, found), (call, Some(reply)));
+fn assert_replies(rt: &impl Abort, state: &mut State<Low>, asked: Asked, reply: Reply) {
+    let found = reply_to(rt, state, 0, asked);
+    assert_same(rt, (asked, found), (asked, Some(reply)));
 }
 
 /// Sixteen ports in one bucket of 64: a bind of a further one attaches a table, and a bind that tries
@@ -266,15 +267,15 @@ fn a_bind_that_tries_once_is_told_of_a_table(rt: HostRuntime) -> Result<(), Fail
     let mut state = State::<Low>::open(rt.alloc(), config)?;
     state.step(Event::Enroll);
     for i in 0..16 {
-        assert_told(&rt, &mut state, bind(64 * i, 1), BOUND);
+        assert_replies(&rt, &mut state, bind(64 * i, 1), BOUND);
     }
-    let once = Call::Bind {
+    let once = Asked::Bind {
         port: 1024,
         owner: 1,
         once: true,
     };
-    assert_told(&rt, &mut state, once, Reply::Again { table: 1 });
-    assert_told(&rt, &mut state, once, BOUND);
+    assert_replies(&rt, &mut state, once, Reply::Again { table: 1 });
+    assert_replies(&rt, &mut state, once, BOUND);
     Ok(())
 }
 
@@ -288,10 +289,10 @@ fn one_caller_works_at_a_time(rt: HostRuntime) -> Result<(), Fail> {
         &[
             enrolls(0),
             enrolls(1),
-            begins(0, Call::Work),
-            begins(1, Call::Work),
+            begins(0, Asked::Work),
+            begins(1, Asked::Work),
             steps(0, &[(Op::exchange(1, 0, 1), 0), (Op::load(28), 1)]),
-            ends(1, &taken, Call::Work, Reply::Elsewhere),
+            ends(1, &taken, Asked::Work, Reply::Elsewhere),
         ],
     )
 }

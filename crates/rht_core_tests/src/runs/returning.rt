@@ -2,8 +2,9 @@
 //! slot 0, whose shape is at 24, its state at 28, and the words that are kept for the callers 0 and 1 at
 //! 32 and 33. It has page 0.
 
+use super::asked::Asked;
 use super::{BOUND, FIND_5, assert_run, begins, bind, enrolls, finishes, for_two, replies, steps};
-use rht_model::{Call, Reply};
+use rht_model::Reply;
 use rht_policy::Low;
 use rht_words::{Config, Op};
 use std::test::Fail;
@@ -53,22 +54,22 @@ fn a_table_waits_for_a_look_up(rt: HostRuntime) -> Result<(), Fail> {
             replies(bind(6, 4), Reply::Bound { kick: true }),
             begins(1, FIND_5),
             steps(1, &[(Op::add(9, 1), 0), (Op::load(0), 0)]),
-            replies(Call::Work, Reply::Moved { again: false }),
-            begins(0, Call::Work),
+            replies(Asked::Work, Reply::Moved { again: false }),
+            begins(0, Asked::Work),
             steps(0, &taken),
             steps(0, &kept),
             steps(0, &[(Op::load(9), 1)]),
             steps(0, &later_slots()),
             steps(0, &[(Op::add(8, 1), 10)]),
-            finishes(0, Call::Work, Reply::Idle),
+            finishes(0, Asked::Work, Reply::Idle),
             finishes(1, FIND_5, found),
-            begins(0, Call::Work),
+            begins(0, Asked::Work),
             steps(0, &taken),
             steps(0, &kept),
             steps(0, &returned),
             steps(0, &later_slots()),
             steps(0, &[(Op::add(8, 1), 12), (Op::load(0), 1)]),
-            finishes(0, Call::Work, Reply::Idle),
+            finishes(0, Asked::Work, Reply::Idle),
             begins(0, FIND_5),
             finishes(0, FIND_5, found),
         ],

@@ -11,6 +11,7 @@ use Rattle.rht_words.proofs.Memory.{Memory, IsWrite}
 use Rattle.rht_words.specs.Members.{In, NotIn}
 use Rattle.rht_words.proofs.Members.{not_in_from, count_below-more}
 use Rattle.rht_words.proofs.ChainLemmas.{IsSegment-members}
+use Rattle.rht_words.specs.Ports.{IsPort}
 use Rattle.rht_ghost.proofs.Theory.Ghosts.{put, put-same, put-other, put-all, Free, NodeHeld, First, Leaving, Behind, Ghost, IsSince, is_first, is_used, is_taken_by, IsUsed, seat_of, seat_in, seat, seat-used, listed-used, held_not_used, held_by_one, none-some, some-same, table_at, is_entry, table_of_page}
 use Rattle.rht_ghost.proofs.Theory.Wholes.{chain_of, list_of, key_of, place_at, home, stop, IsNoBucket, BucketRight, ArmedRight, IsHomeOf, IsFirstAt, IsBehindIn, IsBoundTo, Owned, ArenaRight, IsBuilt, Whole, none_out, out-seated, firsts, raisers, force-there}
 use Rattle.rht_ghost.proofs.Theory.Passed.{home-within, held-bucket, PassesStay, IsArmedFor, held-no_entry}
@@ -254,7 +255,7 @@ module _ (env : Env) (mix : ℕ → ℕ → ℕ → ℕ) where
           }) p;
       single = λ one p m behind. put-all (λ q nodes. nodes ≡ m ∷ behind → behind ≡ []) G.bound port (n ∷ [])
           (λ e. let none : [] ≡ behind = (cc) in sym none) (λ q ne e. whole.owned.single one q m behind e) p;
-      small = λ p m behind. put-all (λ q nodes. nodes ≡ m ∷ behind → q < 2 ^ 32) G.bound port (n ∷ [])
+      small = λ p m behind. put-all (λ q nodes. nodes ≡ m ∷ behind → IsPort q) G.bound port (n ∷ [])
           (λ e. ready.small) (λ q ne e. whole.owned.small q m behind e) p;
     }
       where

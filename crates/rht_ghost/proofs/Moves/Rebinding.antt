@@ -9,6 +9,7 @@ use Rattle.rht_words.specs.Places.{Address, PortCount, Section, StateWord, NodeM
 use Rattle.rht_words.specs.Members.{In}
 use Rattle.rht_words.proofs.Memory.{Memory, IsWrite}
 use Rattle.rht_words.proofs.ChainLemmas.{IsSegment-members}
+use Rattle.rht_words.specs.Ports.{IsPort}
 use Rattle.rht_ghost.proofs.Theory.Ghosts.{put, put-same, put-other, put-all, Owner, Free, NodeHeld, First, Leaving, Behind, Taken, Ghost, IsSince, is_listed, is_used, is_taken_by, IsUsed, seat_of, seat_in, seat, table_at, is_entry, held_not_used, held_by_one, none-some, some-same}
 use Rattle.rht_ghost.proofs.Theory.Wholes.{list_of, key_of, IsNoBucket, BucketRight, ArmedRight, IsFirstAt, IsBehindIn, IsBoundTo, Owned, ArenaRight, IsBuilt, Whole, MovesNone, seated_at, out-seated, firsts, raisers}
 use Rattle.rht_ghost.proofs.Theory.Passed.{held-bucket, PassesStay, WasSeated}
@@ -362,7 +363,7 @@ module _ (env : Env) (mix : ℕ → ℕ → ℕ → ℕ) (d : ℕ) (change : Cha
         | inr ne ↦ whole.owned.single one p n behind (sym (put-other G.bound port change.nodes p ne) ∙ b)
       ];
       small = λ p n behind b. elim (cases_eq p port) [
-        | inl e ↦ subst (λ q. q < 2 ^ 32) (sym e) (whole.owned.small port is.head is.tail is.bound_to)
+        | inl e ↦ subst IsPort (sym e) (whole.owned.small port is.head is.tail is.bound_to)
         | inr ne ↦ whole.owned.small p n behind (sym (put-other G.bound port change.nodes p ne) ∙ b)
       ];
     }

@@ -7,7 +7,7 @@ use Rattle.std.specs.Option.{option_map}
 use Rattle.rht_words.specs.declared.env.Env.{Env}
 use Rattle.rht_words.specs.declared.machine.Start.TheVariants as starts
 use Rattle.rht_words.specs.Links.{link_of, head_of, marker_of, table_of, slot_of, future_of, node_of, page_of, unlocked}
-use Rattle.rht_words.specs.Ports.{port_of}
+use Rattle.rht_words.specs.Ports.{IsPort, port_of}
 use Rattle.rht_words.specs.Chains.{IsSegment}
 use Rattle.rht_words.specs.Shapes.{unpacked, size_of}
 use Rattle.rht_words.specs.Places.{CurrentTable, Slot, ShapeWord, SeedWord, FutureWord, Node, KeyWord, PageWord}
@@ -493,7 +493,7 @@ module _ (env : Env) (mix : ℕ → ℕ → ℕ → ℕ) (c : ℕ) (M : Memory) 
         ≡ place
     pub knows : Knows (Aims root at entry place)
 
-  -- by its key, which is that of a port that is bound, and so has 32 bits; the table isn't nested, so its bucket has its place at once
+  -- by its key, which is that of a port that is bound, and so a key word; the table isn't nested, so its bucket has its place at once
   pub key_seen : (root : KnownRehash) (at : KnownPlace) (entry : KnownEntry) (slot shape seed : ℕ)
       → Knows (AtTail root at entry (Beyond slot (Some shape) (Some seed)))
       → HasAim root at entry shape seed
@@ -505,7 +505,7 @@ module _ (env : Env) (mix : ℕ → ℕ → ℕ → ℕ) (c : ℕ) (M : Memory) 
       (in-middle entry.node among.front among.rear) in
       let first = whole.owned.first_at entry.node (index at.place)
       (whole.owned.member (index at.place) entry.node there) in
-      let small : key_of M entry.node < 2 ^ 32 = whole.owned.small (key_of M entry.node) entry.node first.behind
+      let small : IsPort (key_of M entry.node) = whole.owned.small (key_of M entry.node) entry.node first.behind
       first.bound_to in
       let aim = bucket.aim_is in
       let τ = aim.at.table in
@@ -516,7 +516,7 @@ module _ (env : Env) (mix : ℕ → ℕ → ℕ → ℕ) (c : ℕ) (M : Memory) 
       let place = flat_place env.geometry (G.table τ).shape number in
       let placed = place_of_bucket env mix M G whole τ number is_there below place
       (flat_read env mix M G whole τ number is_there below (ap is_nested aim.shape_is ∙ aim.flat)) in
-      let same : port_of key ≡ key = mod-eq_of_lt {n = key} {m = 2 ^ 32} small in
+      let same : port_of key ≡ key = mod-eq_of_lt {n = key} {m = 2 ^ 48} small in
       record {
         place = place;
         there = ap (λ k. flat_place env.geometry shape (bucket_of mix k shape seed)) same

@@ -11,6 +11,7 @@ use Rattle.rht_words.specs.Shapes.{unpacked, size_of}
 use Rattle.rht_words.proofs.Memory.{Memory}
 use Rattle.rht_words.proofs.ShapeSizes.{IsSizeUpTo-size_of}
 use Rattle.rht_words.specs.Members.{In}
+use Rattle.rht_words.specs.Ports.{net_of, number_of}
 use Rattle.rht_policy.specs.Mix.{bucket_of}
 use Rattle.rht_ghost.proofs.Theory.Ghosts.{Table, Bucket, blank_bucket, is_entry, Ghost, First, PageOwner, PageFree, PageHeld, PageOf, unretired, seat_in, seat, seated, table_of_page, table_at, none-some, some-same}
 use Rattle.rht_ghost.proofs.Theory.Wholes.{key_of, home, hash_in, IsNoBucket, MovesNone, seated_at, Whole, IsThere, AreThereFrom, IsAt, force-there}
@@ -82,7 +83,7 @@ module _ (env : Env) (mix : ℕ → ℕ → ℕ → ℕ) where
     -- the port's number is one of the table's buckets
     pub hash-below : (port τ : ℕ) → hash_in env mix G port τ < size_of (unpacked (G.table τ).shape)
     hash-below port τ =
-        mod-lt (mix port 0 ((G.table τ).seed % 2 ^ 32)) {m = size_of (unpacked (G.table τ).shape)}
+        mod-lt (mix (number_of port) (net_of port) ((G.table τ).seed % 2 ^ 32)) {m = size_of (unpacked (G.table τ).shape)}
         (let size_is = IsSizeUpTo-size_of (unpacked (G.table τ).shape) in omega (arith, size_is.least))
 
     -- the word of a bucket of a table is in one of the table's pages, and is no entry

@@ -5,6 +5,7 @@ use Rattle.rht_words.specs.Links.{link_of, head_of}
 use Rattle.rht_words.specs.Places.{Slot, SeedWord, SerialWord, Node, ListLink}
 use Rattle.rht_words.specs.Members.{In}
 use Rattle.rht_words.proofs.Memory.{Memory}
+use Rattle.rht_words.specs.Ports.{IsPort}
 use Rattle.rht_ghost.proofs.Theory.Ghosts.{put, Bucket, Owner, First, seat_of, is_used, PageOwner, Ghost, table_at, has_bit, PageHeld, PageOf, IsSince, is_entry, lock_bit}
 use Rattle.rht_ghost.proofs.Theory.Wholes.{chain_of, key_of, place_at, MovesNone}
 use Rattle.rht_ghost.proofs.Theory.Knowledge.{HasNode, ArmedFor, IsMade}
@@ -52,11 +53,11 @@ entered G j p = record G {
 }
 
 module _ (env : Env) (mix : ℕ → ℕ → ℕ → ℕ) where
-  -- What is known when a node is linked into a bucket: the caller has the node and the lock, is armed there for the port, which has 32 bits,
+  -- What is known when a node is linked into a bucket: the caller has the node and the lock, is armed there for the port, which is one,
   -- and has no entry on its way.
   pub record IsReady (d n port j : ℕ) (M : Memory) (G : Ghost) : Type 0 where
     pub low : d < env.geometry.callers
-    pub small : port < 2 ^ 32
+    pub small : IsPort port
     pub table : ℕ
     pub armed : ArmedFor env mix G d port table j
     pub moves_none : MovesNone env mix G d

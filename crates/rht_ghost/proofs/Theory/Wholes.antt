@@ -11,6 +11,7 @@ use Rattle.rht_words.specs.Chains.{IsSegment}
 use Rattle.rht_words.proofs.Memory.{Memory}
 use Rattle.rht_words.specs.Members.{In, IsDistinct}
 use Rattle.rht_words.proofs.Members.{count_below}
+use Rattle.rht_words.specs.Ports.{IsPort}
 use Rattle.rht_policy.specs.Mix.{bucket_of}
 use Rattle.rht_nest.specs.Tables.{table_seed}
 use Rattle.rht_ghost.proofs.Theory.Ghosts.{Part, Row, Top, has_entries, Table, Bucket, blank_bucket, Owner, Free, NodeHeld, First, Leaving, Behind, Taken, Ghost, Live, Retired, Back, unretired, IsSince, lock_bit, state_word, is_first, is_taken_by, seat_of, seated, table_at, has_table, table_of_slot, index_at, PageOwner, PageFree, PageHeld, PageOf, is_entry, entry_word}
@@ -345,7 +346,7 @@ module _ (env : Env) (mix : ℕ → ℕ → ℕ → ℕ) where
     pub distinct : IsDistinct (n ∷ behind)
     pub each : (m : ℕ) → In m behind → G.node m ≡ Behind port
 
-  -- who owns each node is what chains and lists say; in a table of one owner a port is bound to one node at most; and a bound port has 32 bits
+  -- who owns each node is what chains and lists say; in a table of one owner a port is bound to one node at most; and what is bound is a port
   pub record Owned (M : Memory) (G : Ghost) : Type 0 where
     pub member : (j n : ℕ) → In n (G.bucket j).nodes → G.node n ≡ First j
     pub first_at : (n j : ℕ) → G.node n ≡ First j → IsFirstAt M G n j
@@ -354,7 +355,7 @@ module _ (env : Env) (mix : ℕ → ℕ → ℕ → ℕ) where
     pub bound_to : (port n : ℕ) (behind : List ℕ) → G.bound port ≡ n ∷ behind → IsBoundTo M G port n behind
     pub single : env.config.kind ≡ Single → (port n : ℕ) (behind : List ℕ) → G.bound port ≡ n ∷ behind
         → behind ≡ []
-    pub small : (port n : ℕ) (behind : List ℕ) → G.bound port ≡ n ∷ behind → port < 2 ^ 32
+    pub small : (port n : ℕ) (behind : List ℕ) → G.bound port ≡ n ∷ behind → IsPort port
 
   -- a node that was taken out of a list was so by one of the callers
   abbrev pub IsBuilt : Owner → Type 0

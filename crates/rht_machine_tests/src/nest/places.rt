@@ -6,7 +6,7 @@ use rht_nest::{
     Bucket, Grow, GrowAt, Locate, LocateAt, Located, LocatedBucket, Place, Reach, ReachAt,
 };
 use rht_policy::Low;
-use rht_words::{Geometry, Next, Op, Start};
+use rht_words::{Geometry, Next, Op, Port, Start};
 use std::process::Abort;
 use std::test::Fail;
 
@@ -53,10 +53,10 @@ fn a_ports_bucket_is_found_in_its_table(rt: HostRuntime) -> Result<(), Fail> {
         let locate = Locate::new(geometry, 2);
         assert_same(&rt, (locate.table(), locate.plan()), (2, Op::load(88)));
         let seed = Locate::new(geometry, 2).with(LocateAt::Seed { shape });
-        let (locate, next) = locate.after::<Low>(70, shape);
+        let (locate, next) = locate.after::<Low>(Port::plain(70), shape);
         assert_same(&rt, (locate, next), (seed, Next::Go));
         assert_same(&rt, locate.plan(), Op::load(89));
-        let (_, next) = locate.after::<Low>(70, 1);
+        let (_, next) = locate.after::<Low>(Port::plain(70), 1);
         let bucket = LocatedBucket::At(place);
         assert_same(&rt, next, Next::Done(Located { shape, bucket }));
     }
@@ -156,14 +156,14 @@ fn assert_located(
         panic!(rt; "not within limits");
     };
     let seed = Locate::new(geometry, 2).with(LocateAt::Seed { shape });
-    let (mut locate, mut next) = seed.after::<Low>(5_000, 1);
+    let (mut locate, mut next) = seed.after::<Low>(Port::plain(5_000), 1);
     let mut place = Place::nested(geometry, shape, 5_000 % (1 << (shape % 32)));
     assert_same(rt, locate, seed.with(LocateAt::Early { shape, place }));
     assert_same(rt, (locate.plan(), next), (Op::load(90), Next::Go));
-    (locate, next) = locate.after::<Low>(5_000, future);
+    (locate, next) = locate.after::<Low>(Port::plain(5_000), future);
     for (entry, page) in entries {
         assert_same(rt, (locate.plan(), next), (Op::load(*entry), Next::Go));
-        (locate, next) = locate.after::<Low>(5_000, *page);
+        (locate, next) = locate.after::<Low>(Port::plain(5_000), *page);
         place = place.after(*page).0;
     }
     let bucket = match want {
@@ -193,12 +193,16 @@ fn assert_reached(rt: &impl Abort, shape: u64, entries: &[(usize, u64)], want: B
     let reach = Reach::new(geometry, 2);
     assert_same(rt, (reach.table(), reach.plan()), (2, Op::load(88)));
     let seed = reach.with(ReachAt::Seed { shape });
-    assert_same(rt, reach.after::<Low>(5_000, shape), (seed, Next::Go));
+    assert_same(
+        rt,
+        reach.after::<Low>(Port::plain(5_000), shape),
+        (seed, Next::Go),
+    );
     assert_same(rt, seed.plan(), Op::load(89));
-    let (mut reach, mut next) = seed.after::<Low>(5_000, 1);
+    let (mut reach, mut next) = seed.after::<Low>(Port::plain(5_000), 1);
     for (entry, page) in entries {
         assert_same(rt, (reach.plan(), next), (Op::load(*entry), Next::Go));
-        (reach, next) = reach.after::<Low>(5_000, *page);
+        (reach, next) = reach.after::<Low>(Port::plain(5_000), *page);
     }
     assert_same(rt, next, Next::Done(want));
 }

@@ -4,15 +4,16 @@
 //! Stands on `places`, which finds where a line ends and where the next word stands.
 
 ghost use Rattle.std.specs.Prelude.{◌≡◌, ◌≢◌, ◌+◌, [], ◌∷◌, MatchOption, Ok, Err};
-ghost use Rattle.rht_script.specs.CommandLines.{number_first, end_of};
+ghost use Rattle.rht_script.specs.CommandLines.{number_first, port_first, end_of};
 ghost use Rattle.rht_script.specs.Spelling.{between, lines_of, words_of, is_skipped};
 ghost use Rattle.rht_script.specs.Cursors.{TakesNext, Reads};
 
 use super::numbers::{number_between, number_within};
 use super::places::{letter_at, line_end, word_at};
+use super::ports;
 use crate::cause::Cause;
 use crate::script::{MOST_LINES, ScriptFault};
-use rht_words::Limits;
+use rht_words::{Limits, Port};
 use std::marker::Model;
 
 /// The greatest number of bytes of a line without its line feed.
@@ -139,6 +140,17 @@ impl<'a> Words<'a> {
     {
         match self.next() {
             Some(word) => number_between(word, 0, u64::MAX),
+            None => Err(Cause::UnknownWord),
+        }
+    }
+
+    /// The next word's port, in a script of this form. Causes come as for `port_word`, and any form but
+    /// 2 is read as form 1. After an `Err` the words are of no more use.
+    pub fn port(&mut self, form: u32) -> Result<Port, Cause>
+        ensures { Reads result self.new (port_first form self.old) }
+    {
+        match self.next() {
+            Some(word) => ports::port(form, word),
             None => Err(Cause::UnknownWord),
         }
     }

@@ -33,13 +33,16 @@ pub const SEED: &[u8] = b"seed";
 /// How often a look-up walks one bucket again.
 pub const REWALKS: &[u8] = b"rewalks";
 
+/// How ports are written.
+pub const FORM: &[u8] = b"form";
+
 /// Which hash picks the bucket of a port.
 pub const HASH: &[u8] = b"hash";
 
 /// The hash that mixes port and seed.
 pub const MIX: &[u8] = b"mix";
 
-/// The hash that is the port itself.
+/// The hash that is the port's number itself.
 pub const LOW: &[u8] = b"low";
 
 /// Whether the table shrinks.

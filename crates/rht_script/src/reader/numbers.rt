@@ -13,13 +13,7 @@ use rht_words::Limits;
 /// The greatest number of digits of a number.
 const MOST_DIGITS: usize = 20;
 
-/// A port is any number of 32 bits.
-pub const PORT: Limits = Limits {
-    least: 0,
-    greatest: u32::MAX,
-};
-
-/// An owner is too.
+/// An owner is any number of 32 bits.
 pub const OWNER: Limits = Limits {
     least: 0,
     greatest: u32::MAX,

@@ -5,14 +5,16 @@
 
 ghost use Rattle.std.specs.Prelude.{◌≡◌, IfOk, IsTrue};
 ghost use Rattle.rht_words.specs.Settled.{IsSettled};
-ghost use Rattle.rht_script.specs.CommandLines.{command_of, port_limits};
+ghost use Rattle.rht_script.specs.CommandLines.{command_of};
 ghost use Rattle.rht_script.specs.Grammar.{coded};
+ghost use Rattle.rht_script.specs.PortWords.{IsForm, port_of_word};
 ghost use Rattle.rht_script.specs.Sound.{is_sound_command};
 ghost use Rattle.rht_script.specs.Spelling.{between, number_of, words_of};
-ghost use Rattle.rht_script.specs.TableLines.{one_number, table_of};
+ghost use Rattle.rht_script.specs.TableLines.{table_of};
 
 use super::cursors::Words;
-use super::numbers::{PORT, number_between, number_within};
+use super::numbers::number_between;
+use super::ports::port;
 use super::{command, table};
 use crate::cause::{Cause, coded};
 use crate::script::TableLine;
@@ -27,13 +29,16 @@ pub fn number_of(word: &[u8], least: u64, greatest: u64) -> Result<u64, u8>
     coded(number_between(word, least, greatest))
 }
 
-/// The port that the word stands for, where ports are written in this form. Causes 3 and 4 come as
-/// for a number of 32 bits.
+/// The port that the word stands for in a script of this form, which is 1 or 2. In form 1 the word is
+/// a number of at most 4,294,967,295, and the port's net is 0. In form 2 it may also be a net, a dot
+/// and such a number: it is cut at its first dot, and the net is at most 65,535. Causes 3 and 4 come
+/// as for numbers, first of the net and then of the number. So `3.`, `.3` and `1.2.3` have cause 3,
+/// and `65536.x` has cause 4.
 pub fn port_word(word: &[u8], form: u32) -> Result<Port, u8>
-    requires { form ≡ one_number }
-    ensures { result ≡ coded (number_of port_limits word.now) }
+    requires { IsForm form }
+    ensures { result ≡ coded (port_of_word form word.now) }
 {
-    coded(number_within(PORT, word))
+    coded(port(form, word))
 }
 
 /// What a table line says, or its first cause, of 1 to 4 and 8. A line is never skipped: without
@@ -41,7 +46,7 @@ pub fn port_word(word: &[u8], form: u32) -> Result<Port, u8>
 pub fn table_line(line: &[u8]) -> Result<TableLine, u8>
     ensures value { result ≡ coded (table_of (words_of line.now)) }
     ensures settled { IfOk result (λ table. IsSettled table.config) }
-    ensures form { IfOk result (λ table. table.form ≡ one_number) }
+    ensures form { IfOk result (λ table. IsForm table.form) }
 {
     coded(table(Words::new(line)))
 }
@@ -51,9 +56,9 @@ pub fn table_line(line: &[u8]) -> Result<TableLine, u8>
 /// skipped.
 pub fn command_line(line: &[u8], table: &TableLine) -> Result<(u32, Call), u8>
     requires settled { IsSettled table.now.config }
-    requires form { table.now.form ≡ one_number }
+    requires form { IsForm table.now.form }
     ensures value { result ≡ coded (command_of table.now (words_of line.now)) }
-    ensures sound { IfOk result (λ command. IsTrue (is_sound_command table.now.config command)) }
+    ensures sound { IfOk result (λ command. IsTrue (is_sound_command table.now.form table.now.config command)) }
 {
     coded(first_command(table, Words::new(line)))
 }

@@ -3,6 +3,7 @@
 
 ghost use Rattle.std.specs.Prelude.{◌≡◌, ◌+◌, ◌≤◌, [], ◌++◌, length, codes, decimal, flat_map, OnOk};
 ghost use Rattle.rht_script.specs.Text.{spaced, named, owners_text, pair_text};
+ghost use Rattle.rht_script.specs.PortWords.{port_text};
 ghost use Rattle.rht_script.specs.Writing.{Adds};
 
 use super::buffer::TextBuffer;
@@ -60,6 +61,20 @@ impl<'a, O: Sink> Writer<'a, O> {
         }
         let mut buffer = Buffer::new();
         self.add(buffer.format(number).as_bytes())
+    }
+
+    /// Adds a port: its number, behind its net and a dot where the net isn't 0.
+    pub fn add_port(&mut self, port: Port) -> Result<(), Failed>
+        ensures text { Adds O.held O.faults self.old.out.now self.new.out.now result
+            self.old.waiting self.new.waiting (port_text port) }
+        ensures same_sink { self.new.out.ghost_name ≡ self.old.out.ghost_name }
+    {
+        if port.net == 0 {
+            return self.add_number(port.number.into());
+        }
+        self.add_number(port.net.into())?;
+        self.add(b".")?;
+        self.add_number(port.number.into())
     }
 
     /// Adds a number after a space.
@@ -125,7 +140,8 @@ impl<'a, O: Sink> Writer<'a, O> {
         ensures same_sink { self.new.out.ghost_name ≡ self.old.out.ghost_name }
     {
         let (port, owner) = pair;
-        self.add_spaced(port.into())?;
+        self.add(b" ")?;
+        self.add_port(port)?;
         self.add(b"=")?;
         self.add_number(owner.into())
     }

@@ -53,7 +53,8 @@ impl Sort {
 }
 
 /// Writes the line that sums up the run of the script of this number: how many replies its workers
-/// had, how many of them are of each sort, how many ports are bound at the end, and the sum of these.
+/// had, how many of them are of each sort, how many ports are bound at the end, and the sum of
+/// their numbers, whatever their nets.
 pub fn write_summary<O: Sink>(
     out: &mut O,
     number: u32,
@@ -127,7 +128,7 @@ fn count_of(sort: Sort, replies: &Replies) -> u64
     count
 }
 
-/// Adds how many ports are bound, and their sum.
+/// Adds how many ports are bound, and the sum of their numbers.
 fn add_bound_sums<O: Sink>(
     text: &mut Writer<'_, O>,
     keys: u32,
@@ -143,14 +144,14 @@ fn add_bound_sums<O: Sink>(
     text.end_line()
 }
 
-/// The sum of the ports that are bound.
+/// The sum of the numbers of the ports that are bound.
 fn sum_of_ports(bindings: &Bindings) -> u64
     requires { length bindings.now.pairs ≤ 4294967295 }
     ensures { result ≡ sum_of_ports bindings.now.pairs }
 {
     let mut sum = 0;
     for i in 0..bindings.len() {
-        sum += u64::from(bindings.port(i));
+        sum += u64::from(bindings.port(i).number);
     }
     sum
 }

@@ -3,7 +3,7 @@
 //! table of 128 buckets or of 8,192 has two entries in its top page: bucket b is behind entry b % 2.
 
 use super::{bucket_in, owners_of};
-use rht_words::{Geometry, Port};
+use rht_words::{Geometry, port_of};
 use std::alloc::Global;
 use std::process::Abort;
 use std::test::Fail;
@@ -26,8 +26,8 @@ type Part<'a> = &'a [(usize, u64)];
 /// The words, the shape, the bucket, and its place.
 type PlaceCase<'a> = (Part<'a>, u64, u32, Option<usize>);
 
-/// The words, a port and its owners.
-type OwnersCase<'a> = ([Part<'a>; 4], Port, &'a [u32]);
+/// The words, the key word of a port, and its owners.
+type OwnersCase<'a> = ([Part<'a>; 4], u64, &'a [u32]);
 
 /// All words of a table of this geometry: these words, part by part, and zeros.
 fn words_with(alloc: Global, geometry: Geometry, parts: &[Part]) -> Result<Vec<u64>, Fail> {
@@ -64,11 +64,11 @@ fn assert_owners(
     alloc: Global,
     geometry: Geometry,
     words: &[u64],
-    port: Port,
+    port: u64,
     want: &[u32],
 ) -> Result<(), Fail> {
     assert_eq!(rt; words.len(), geometry.words());
-    let owners = owners_of(alloc, geometry, words, port)?;
+    let owners = owners_of(alloc, geometry, words, port_of(port))?;
     assert_eq!(rt; owners.as_slice(), want, "at {port}");
     Ok(())
 }
@@ -121,6 +121,9 @@ fn buckets_behind_entries(rt: HostRuntime) -> Result<(), Fail> {
 fn a_missing_page_binds_nothing(rt: HostRuntime) -> Result<(), Fail> {
     // Node 0 stands in word 3 of page 1, at 381, which is bucket 6 where that page is behind entry 0.
     let node_0 = [(381, 2), (282, 763), (283, 6), (284, 9)];
+    // The same with the key of port 6 of net 3.
+    let net_3_port_6 = 3 * (1 << 32) + 6;
+    let node_0_of_net_3 = [(381, 2), (282, 763), (283, net_3_port_6), (284, 9)];
     // Node 2 stands in word 5 of page 2, at 447, and node 1 is behind it on its list.
     let node_2 = [
         (447, 6),
@@ -141,9 +144,16 @@ fn a_missing_page_binds_nothing(rt: HostRuntime) -> Result<(), Fail> {
     ];
     let one_level = [(24, ONE_LEVEL)];
     let two_levels = [(24, TWO_LEVELS)];
-    let cases: [OwnersCase; 11] = [
+    let cases: [OwnersCase; 13] = [
         ([&one_level, &ONE_PAGE, &node_0, &[]], 6, &[9]),
         ([&one_level, &ONE_PAGE, &node_0, &[]], 5, &[]),
+        // the net counts as the number does
+        ([&one_level, &ONE_PAGE, &node_0_of_net_3, &[]], 6, &[]),
+        (
+            [&one_level, &ONE_PAGE, &node_0_of_net_3, &[]],
+            net_3_port_6,
+            &[9],
+        ),
         // where the page of its bucket is missing the node isn't met
         ([&one_level, &[], &node_0, &[]], 6, &[]),
         // the node behind the other entry is met in bucket 7, whatever its key is

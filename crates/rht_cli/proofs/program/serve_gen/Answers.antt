@@ -48,7 +48,7 @@ returns g c =
     subst (λ (workers : List (List Ending)). (left : Option (List ℕ)) → Prints (Gen number) left left (summary_line number workers pairs))
     (sym c.deref.ensures.value)
     (λ left. Prints-gen number left (said_by script) replies.items closed c.in_ok-script.ensures.script
-    (sound-commands script.config script.commands.items c.in_ok-script.ensures.sound.commands) c.in_ok-replies.ensures) in
+    (sound-commands script.form script.config script.commands.items c.in_ok-script.ensures.sound.commands) c.in_ok-replies.ensures) in
     rw c.served_by.ensures
     (λ left. Serves-put (λ input. input) (λ input. 0) g.O.Sink.held g.O.Sink.faults (Gen number) left left
     c.args.out.now c.write_summary.new.out text c.write_summary.result (printed left) c.write_summary.ensures)

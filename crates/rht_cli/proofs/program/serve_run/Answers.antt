@@ -38,7 +38,7 @@ returns g c =
     subst (λ (workers : List (List Ending)). Prints Run (left c.args.source.now) (left c.read_script.new.source)
     (run_text workers pairs closed.size)) (sym c.deref.ensures.value)
     (Prints-run (left c.args.source.now) (left c.read_script.new.source) (said_by script) replies.items closed
-    c.in_ok-script.ensures.read (sound-commands script.config script.commands.items c.in_ok-script.ensures.sound.commands)
+    c.in_ok-script.ensures.read (sound-commands script.form script.config script.commands.items c.in_ok-script.ensures.sound.commands)
     c.in_ok-replies.ensures) in
     rw c.served_by.ensures
     (Serves-put left g.S.Source.faults g.O.Sink.held g.O.Sink.faults Run c.args.source.now

@@ -1,6 +1,6 @@
-use Rattle.std.proofs.Common.{◌≡◌, ◌+◌, ◌<◌, false, length, take, get_or, sym, subst, arith}
+use Rattle.std.proofs.Common.{◌≡◌, ℕ, ◌+◌, ◌<◌, false, length, take, sym, subst, arith}
 use Rattle.rht_words.specs.declared.config.Config.{Config}
-use Rattle.rht_model.specs.declared.history.Call.TheVariants.{Bind}
+use Rattle.rht_model.specs.declared.history.Call.{Call}
 use Rattle.rht_core.specs.Runs.{IsBuiltFor}
 use Rattle.rht_registry.proofs.ServedCalls.{new-below, served-kept, served-own, served-other, served-same}
 use Rattle.rht_registry.proofs.SoundCommands.{IsCommandFor, sound-commands, next-command}
@@ -19,10 +19,12 @@ serve-reply-requires-clause-kind g c =
     let i = c.loop-command.command-index in
     let commands = c.args.script.now.commands.items in
     let within : i < length items = omega arith in
+    let item = c.command-item.result in
     let command =
-    next-command (IsCommandFor config) items commands i (0, Bind 0 0 false) c.loop-command.invariant.items
-    (sound-commands config commands c.requires.can.sound.commands) within in
-    subst (λ (k : Config). IsBuiltFor k.kind (get_or items i (0, Bind 0 0 false)).1) (sym c.requires.can.config) command.kind
+    next-command (IsCommandFor config) items commands i item c.loop-command.invariant.items
+    (sound-commands c.args.script.now.form config commands c.requires.can.sound.commands) within in
+    subst (λ (k : Config). IsBuiltFor k.kind item.1) (sym c.requires.can.config)
+    (subst (λ (command : ℕ × Call). IsBuiltFor config.kind command.1) (sym c.command-item.is) command.kind)
 
 pub loop-command-preserved : goal.loop-command-preserved
 loop-command-preserved g c =
@@ -35,7 +37,8 @@ loop-command-preserved g c =
     let before = c.loop-command.invariant in
     let few = before.few in
     let within : i < length items = omega arith in
-    let here = get_or items i (0, Bind 0 0 false) in
+    let here = c.command-item.result in
+    let is = c.command-item.is in
     let pass = c.if-command-worker.pass in
     let replies = c.if-command-worker.replies in
     elim c.if-command-worker.branch [
@@ -51,7 +54,7 @@ loop-command-preserved g c =
           record {
             served =
                 served-same mix table auto (take (i + 1) items) number pass now replies all w.pass-is w.replies-is
-                (served-own mix table auto items i (0, Bind 0 0 false) number now all within own kept);
+                (served-own mix table auto items i here here is number now all within own kept);
             items = before.items;
             few = omega (arith, few, index_is);
           }
@@ -62,7 +65,7 @@ loop-command-preserved g c =
             served =
                 served-same mix table auto (take (i + 1) items) number pass c.loop-command.pass replies c.loop-command.replies w.pass-is
                 w.replies-is
-                (served-other mix table auto items i (0, Bind 0 0 false) number c.loop-command.pass c.loop-command.replies within
+                (served-other mix table auto items i here here is number c.loop-command.pass c.loop-command.replies within
                 (λ same. absurd (omega (arith, same, other))) before.served);
             items = before.items;
             few = omega (arith, few, index_is);

@@ -13,7 +13,7 @@ returns-in_default-clause-first c =
 pub returns-then-is_some-clause-first : goal.returns-then-is_some-clause-first
 returns-then-is_some-clause-first c =
     let nodes = table_nodes c.args.geometry c.args.words.now c.in-Some.table in
-    let same_key = ap (λ key. find (has_key c.args.geometry c.args.words.now key) nodes) c.word_of.ensures in
+    let same_key = ap (λ key. find (has_key c.args.geometry c.args.words.now key) nodes) c.word_of.ensures.word in
     tables-here _ c.args.words.now (word_of c.args.port) 8 c.loop.counter c.loop.next c.in-Some.table _
     c.in-Some.is c.loop-test.true c.loop.invariant.first
     _ (c.first_in_table-found.ensures.first ∙ same_key) (sym c.is_some.ensures ∙ c.if-is_some.true)
@@ -21,7 +21,7 @@ returns-then-is_some-clause-first c =
 pub loop-preserved : goal.loop-preserved
 loop-preserved c =
     let nodes = table_nodes c.args.geometry c.args.words.now c.in-Some.table in
-    let same_key = ap (λ key. find (has_key c.args.geometry c.args.words.now key) nodes) c.word_of.ensures in
+    let same_key = ap (λ key. find (has_key c.args.geometry c.args.words.now key) nodes) c.word_of.ensures.word in
     record {
       first = tables-past _ c.args.words.now (word_of c.args.port) 8 c.loop.counter c.loop.next
           c.in-Some.table _

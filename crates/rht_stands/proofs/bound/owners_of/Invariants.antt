@@ -6,6 +6,6 @@ use Rattle.rht_stands.proofs.bound.owners_of.Given as goal
 abbrev pub invariant-loop : goal.invariant-loop
 invariant-loop l = record {
   all : l.owners.items ++ owners_from l.geometry l.words (l.geometry.nodes - l.counter) l.next
-      ≡ stands_for l.geometry l.words l.port;
+      ≡ stands_for l.geometry l.words l.fn.port;
   within : IfSome l.next (λ node. node < l.geometry.nodes);
 }

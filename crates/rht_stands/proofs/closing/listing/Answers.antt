@@ -1,5 +1,5 @@
 -- Owners that are added port by port, with the ports rising, make a pair of each port; and that list is the one of the bindings.
-use Rattle.std.proofs.Common.{◌≡◌, ◌≢◌, ℕ, zero, suc, ◌+◌, ◌-◌, ◌<◌, ◌≤◌, get_or, drop, drop-cons, add-one, Option, Some, None, List, [], ◌∷◌, ◌++◌, map, length, append_assoc, refl, sym, ◌∙◌, ap, subst, inl, inr, arith}
+use Rattle.std.proofs.Common.{◌≡◌, ◌≢◌, ℕ, zero, suc, ◌+◌, ◌-◌, ◌<◌, ◌≤◌, drop, drop-cons, add-one, Option, Some, None, List, [], ◌∷◌, ◌++◌, map, length, append_assoc, refl, sym, ◌∙◌, ap, subst, inl, inr, arith}
 use Rattle.std.specs.List.{AllByRecursion, flat_map}
 use Rattle.std.specs.List.Sorted.{IsStrictlyIncreasing}
 use Rattle.std.proofs.lemmas.Bool.{eq-eqb, ne_eqb, cases_eq}
@@ -170,12 +170,12 @@ loop-first-preserved c =
     let words = c.args.words.now in
     let firsts = c.deref-first-items.result.now in
     let i = c.loop-first.first-index in
-    let first = get_or firsts i (0, 0) in
+    let first = c.first-item.result in
     let pairs = c.loop-first.bindings.pairs in
     let here = owned g words first in
     let rest = flat_map (owned g words) (drop (i + 1) firsts) in
     let within : i < length firsts = omega arith in
-    let parts : drop i firsts ≡ first ∷ drop (i + 1) firsts = rw (add-one, drop-cons firsts i (0, 0)) refl in
+    let parts : drop i firsts ≡ first ∷ drop (i + 1) firsts = rw (add-one, drop-cons firsts i first, ← c.first-item.is) refl in
     let more : flat_map (owned g words) (drop i firsts) ≡ here ++ rest = ap (flat_map (owned g words)) parts in
     let long : length (flat_map (owned g words) (drop i firsts)) ≡ length here + length rest = ap length more ∙ length-append here rest in
     let before = c.loop-first.invariant.room in

@@ -1,4 +1,4 @@
-use Rattle.std.proofs.Common.{refl, arith}
+use Rattle.std.proofs.Common.{refl}
 use Rattle.rht_model.specs.declared.history.Call.TheVariants.{All}
 use Rattle.rht_run.proofs.CallSteps.{answered}
 use Rattle.rht_run.proofs.CallCauses.{called_caused}
@@ -6,7 +6,7 @@ use Rattle.rht_run.proofs.table.Table.all.Goals as goal
 
 pub call-requires-clause-may : goal.call-requires-clause-may
 call-requires-clause-may g c =
-    record { idle = c.requires.idle; admitted = omega (arith, c.ranges.port); built = tt; machine = _; machine_is = refl }
+    record { idle = c.requires.idle; admitted = c.word_of.ensures.within; built = tt; machine = _; machine_is = refl }
 
 pub returns-clause-reply : goal.returns-clause-reply
 returns-clause-reply g c =

@@ -8,5 +8,5 @@ pub returns-clause-sound : goal.returns-clause-sound
 returns-clause-sound c =
     let table = c.args.table.now in
     rw (c.coded.ensures, c.first_command.ensures)
-    (IfOk-coded (λ command. is_sound_command table.config command ≡ true) (command_of table c.new.result)
+    (IfOk-coded (λ command. is_sound_command table.form table.config command ≡ true) (command_of table c.new.result)
     (command_sound table c.new.result))

@@ -1,5 +1,5 @@
 use Rattle.rht_script.specs.TableLines.{table_of}
-use Rattle.rht_script.proofs.SayableScripts.{IsSettledTable, table_settled, HasOneNumber, table_form, IfOk-coded}
+use Rattle.rht_script.proofs.SayableScripts.{IsSettledTable, table_settled, HasForm, table_form, IfOk-coded}
 use Rattle.rht_script.proofs.reader.parts.table_line.Goals as goal
 
 pub returns-clause-settled : goal.returns-clause-settled
@@ -9,4 +9,4 @@ returns-clause-settled c =
 
 pub returns-clause-form : goal.returns-clause-form
 returns-clause-form c =
-    rw (c.coded.ensures, c.table.ensures) (IfOk-coded HasOneNumber (table_of c.new.result) (table_form c.new.result))
+    rw (c.coded.ensures, c.table.ensures) (IfOk-coded HasForm (table_of c.new.result) (table_form c.new.result))
