@@ -16,7 +16,7 @@ use Rattle.rht_nest.specs.Place.{PlaceModel, nested_place, entered, is_deep}
 use Rattle.rht_ghost.proofs.Theory.Ghosts.{has_entries, Bucket, NodeHeld, Leaving, Middle, PageHeld, PageOf, SlotHeld, Live, Retiring, Retired, Back, slot_holder, Ghost, is_taken_by, IsSince, IsOver}
 use Rattle.rht_ghost.proofs.Theory.Wholes.{AreRetired, chain_of, key_of, place_at, word_index, hash_in, home, pages_of, MovesNone, moves_none, IsFurther, Whole, IsAt, AreThereFrom, there_behind}
 use Rattle.rht_ghost.proofs.Theory.Passed.{NoKey, Passed}
-use Rattle.rht_ghost.proofs.Theory.Knowns.{knows_plain, Armed, KnownAim, NoAim, Onward, From, Beyond, KnownRehash, KnownPlace, Follows, Nears, Faces, InBucket, Bare, Aims, LeavesBehind, AtEntry, AtHome, AtNode, AtTail, Brings, Collected, CollectedTo, CutsOut, Differing, Differs, Empties, FirstLink, Found, HasBrought, HasKept, HasLoadedWord, HasMade, HasPages, HasTaken, InList, InSlot, IsAmong, IsCollected, IsCollectedTo, IsCutOut, IsLeading, IsLeadingTo, IsOtherOwner, IsOwnersNode, IsPromoting, Known, KnownBucket, KnownEntry, KnownList, KnownMaking, KnownNode, KnownSlot, KnownTable, KnownWork, Leads, LeadsTo, Listing, Locks, LocksTakenOut, MakesNothing, Matching, Member, Missed, NoWork, Nowhere, OnWay, Passes, Promotes, Replaces, Rooted, Shaped, Stands, StandsAt, StandsInList, Succeeds, TakenOut, TakesOut, Unlocked, Unlocks, Works, last_of, Asks, Compares, KnownGiving, Over, InRun, AtTop, AtLeaf, ClearsLeaf, ClearsTop, GivesBack, HasBack}
+use Rattle.rht_ghost.proofs.Theory.Knowns.{knows_plain, Armed, KnownAim, NoAim, Onward, From, Beyond, KnownRehash, KnownPlace, Follows, Nears, Faces, InBucket, Bare, Aims, LeavesBehind, AtEntry, AtHome, AtNode, AtTail, Brings, Collected, CollectedTo, Copied, CopiedTo, LinkBehind, Differing, Differs, Empties, FirstLink, Found, HasBrought, HasKept, HasLoadedWord, HasMade, HasPages, HasTaken, InList, InSlot, IsAmong, IsCollected, IsCollectedTo, IsLinkBehind, IsLeading, IsLeadingTo, IsOtherOwner, IsOwnersNode, IsPromoting, Known, KnownBucket, KnownEntry, KnownList, KnownMaking, KnownNode, KnownSlot, KnownTable, KnownWork, Leads, LeadsTo, Listing, Locks, LocksTakenOut, MakesNothing, Matching, Member, Missed, NoWork, Nowhere, OnWay, Passes, Promotes, Replaces, Rooted, Shaped, Stands, StandsAt, StandsInList, Succeeds, TakenOut, TakesOut, Unlocked, Unlocks, Works, last_of, Asks, Compares, KnownGiving, Over, InRun, AtTop, AtLeaf, ClearsLeaf, ClearsTop, GivesBack, HasBack}
 use Rattle.rht_ghost.proofs.Theory.Ways.{first_page, entries_in, IsNestedShape}
 
 -- the caller does the work, and each table before the current one that has a slot is retired, but for the one in this slot
@@ -218,24 +218,42 @@ module _ (env : Env) (mix : ℕ → ℕ → ℕ → ℕ) where
     pub has : HasNode c G node
     pub alike : chain_of M node ≡ chain_of M first
 
-  -- and the first one has this owner, and is the only one
-  pub record IsSucceeding (c : ℕ) (M : Memory) (G : Ghost) (first : ℕ) (behind : List ℕ) (node owner : ℕ) : Type 0 where
-    pub leads : IsLeading M first behind None owner
-    pub replaces : IsReplacing c M G first node
+  -- the caller's own node has the link that is behind a node with this owner in the list
+  pub record IsCopied (c : ℕ) (M : Memory) (G : Ghost) (nodes : List ℕ) (node : ℕ) (before : Option ℕ) (own owner : ℕ) :
+      Type 0 where
+    pub is : IsOwnersNode M nodes node before owner
+    pub has : HasNode c G own
+    pub list_is : list_of M own ≡ list_link is.stands.among.rear
+
+  -- and that is the first one, behind which is this link in the chain
+  pub record IsCopiedTo (c : ℕ) (M : Memory) (G : Ghost) (first : ℕ) (behind : List ℕ) (own link owner : ℕ) : Type 0 where
+    pub owner_is : owner_of (M (Node first OwnerWord)) ≡ owner
+    pub has : HasNode c G own
+    pub list_is : list_of M own ≡ list_link behind
+    pub link_is : chain_of M first ≡ link
+
+  -- or the own node leads on as the first one does
+  pub record IsSucceeding (c : ℕ) (M : Memory) (G : Ghost) (first : ℕ) (behind : List ℕ) (own owner : ℕ) : Type 0 where
+    pub owner_is : owner_of (M (Node first OwnerWord)) ≡ owner
+    pub list_is : list_of M own ≡ list_link behind
+    pub replaces : IsReplacing c M G first own
 
   abbrev pub ListMeans : ℕ → Memory → Ghost → ℕ → List ℕ → KnownList → Type 0
   ListMeans c M G first behind (AtNode node before owner) = StandsInList M (first ∷ behind) node before owner
   ListMeans c M G first behind (Differing node owner) = IsOtherOwner M (first ∷ behind) node owner
   ListMeans c M G first behind (Matching node before owner) = IsOwnersNode M (first ∷ behind) node before
       owner
-  ListMeans c M G first behind (CutsOut node before link owner) = IsCutOut M (first ∷ behind) node before
+  ListMeans c M G first behind (LinkBehind node before link owner) = IsLinkBehind M (first ∷ behind) node before
       link owner
+  ListMeans c M G first behind (Copied node before own owner) = IsCopied c M G (first ∷ behind) node before own
+      owner
   ListMeans c M G first behind (Leads second owner) = IsLeading M first behind second owner
   ListMeans c M G first behind (LeadsTo second link owner) = IsLeadingTo M first behind second link owner
   ListMeans c M G first behind (Promotes second owner) = IsPromoting M first behind second owner
   ListMeans c M G first behind (FirstLink link) = chain_of M first ≡ link
   ListMeans c M G first behind (Replaces node) = IsReplacing c M G first node
-  ListMeans c M G first behind (Succeeds node owner) = IsSucceeding c M G first behind node owner
+  ListMeans c M G first behind (CopiedTo own link owner) = IsCopiedTo c M G first behind own link owner
+  ListMeans c M G first behind (Succeeds own owner) = IsSucceeding c M G first behind own owner
   ListMeans c M G first behind (Collected node owners) = IsCollected M (first ∷ behind) node owners
   ListMeans c M G first behind (CollectedTo node owners) = IsCollectedTo M (first ∷ behind) node owners
 
@@ -277,13 +295,15 @@ module _ (env : Env) (mix : ℕ → ℕ → ℕ → ℕ) where
   IsPlainList (AtNode node before owner) = Unit {0}
   IsPlainList (Differing node owner) = Unit {0}
   IsPlainList (Matching node before owner) = Unit {0}
-  IsPlainList (CutsOut node before link owner) = Unit {0}
+  IsPlainList (LinkBehind node before link owner) = Unit {0}
+  IsPlainList (Copied node before own owner) = ⊥
   IsPlainList (Leads second owner) = Unit {0}
   IsPlainList (LeadsTo second link owner) = Unit {0}
   IsPlainList (Promotes second owner) = Unit {0}
   IsPlainList (FirstLink link) = Unit {0}
   IsPlainList (Replaces node) = ⊥
-  IsPlainList (Succeeds node owner) = ⊥
+  IsPlainList (CopiedTo own link owner) = ⊥
+  IsPlainList (Succeeds own owner) = ⊥
   IsPlainList (Collected node owners) = Unit {0}
   IsPlainList (CollectedTo node owners) = Unit {0}
 
