@@ -54,7 +54,7 @@ pub fn not_enrolled<M: Mix>()
 {}
 
 /// In every run each word has 64 bits. So what holds of words of 64 bits holds of what a caller finds. It wants
-/// admitted events, whose ports and owners have 32 bits, and says no more of a word.
+/// admitted events, of ports that there are and of owners of 32 bits, and says no more of a word.
 pub fn words_fit<M: Mix>()
     ensures { WordsFit M M.mix_of }
 {}

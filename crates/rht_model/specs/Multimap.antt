@@ -1,7 +1,7 @@
 -- What ports are bound to. It knows no bucket, no table and no word.
 use Rattle.std.specs.Prelude.{◌≡◌, ℕ, ◌==◌, ◌<◌, ◌≤◌, nat_lt, if◌then◌else◌, Bool, List, [], length}
 
--- a port: its number
+-- a port, which is a net and a number: its key word
 abbrev pub Port : Type 0
 Port = ℕ
 

@@ -6,7 +6,7 @@ ghost use Rattle.rht_words.specs.Sizes.{IsSizeUpTo};
 
 use super::*;
 use crate::mix::round;
-use rht_words::{rounded_down, rounded_up};
+use rht_words::{Port, rounded_down, rounded_up};
 use std::fmt::Debug;
 use std::process::Abort;
 
@@ -273,12 +273,20 @@ fn ports_nets_and_seeds_are_mixed(rt: HostRuntime) {
         (443, 7, 7, 0x9150_B813),
         (0xDEAD_BEEF, 0x1234, 0xCAFE_BABE, 0x6736_A7D2),
     ];
-    for (port, net, seed, mixed) in vectors {
-        let low = (Low::mix(port, net, seed), hash_of::<Low>(port, seed));
-        let found = (Lookup3::mix(port, net, seed), low);
-        assert_row(&rt, (port, net, seed), found, (mixed, (port, port)));
-        if net == 0 {
-            assert_row(&rt, (port, seed), hash_of::<Lookup3>(port, seed), mixed);
-        }
+    for (number, net, seed, mixed) in vectors {
+        let row = (number, net, seed);
+        let found = (Lookup3::mix(number, net, seed), Low::mix(number, net, seed));
+        assert_row(&rt, row, found, (mixed, number));
+        // The hash of a port mixes its number, its net and the seed.
+        let port = Port {
+            net: net as u16,
+            number,
+        };
+        assert_row(&rt, row, hash_of::<Lookup3>(port, seed), mixed);
+        let again = Port {
+            net: net as u16,
+            number,
+        };
+        assert_row(&rt, row, hash_of::<Low>(again, seed), number);
     }
 }

@@ -108,7 +108,7 @@ IsThereNext (job, Done ending) M = ⊥
 abbrev pub holds_no : Holding
 holds_no = held.holds_nothing
 
--- all that a bind names is the table's, and its port and its owner have 32 bits
+-- all that a bind names is the table's, its port is one, and its owner has 32 bits
 pub record IsBindingIn (env : Env) (port owner : ℕ) (state : BindAt) : Type 0 where
   pub port_in : IsPort port
   pub owner_in : owner < 2 ^ 32

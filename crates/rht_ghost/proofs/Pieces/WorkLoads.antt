@@ -493,7 +493,7 @@ module _ (env : Env) (mix : ℕ → ℕ → ℕ → ℕ) (c : ℕ) (M : Memory) 
         ≡ place
     pub knows : Knows (Aims root at entry place)
 
-  -- by its key, which is that of a port that is bound, and so has 32 bits; the table isn't nested, so its bucket has its place at once
+  -- by its key, which is that of a port that is bound, and so a key word; the table isn't nested, so its bucket has its place at once
   pub key_seen : (root : KnownRehash) (at : KnownPlace) (entry : KnownEntry) (slot shape seed : ℕ)
       → Knows (AtTail root at entry (Beyond slot (Some shape) (Some seed)))
       → HasAim root at entry shape seed

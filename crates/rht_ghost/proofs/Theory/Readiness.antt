@@ -53,7 +53,7 @@ entered G j p = record G {
 }
 
 module _ (env : Env) (mix : ℕ → ℕ → ℕ → ℕ) where
-  -- What is known when a node is linked into a bucket: the caller has the node and the lock, is armed there for the port, which has 32 bits,
+  -- What is known when a node is linked into a bucket: the caller has the node and the lock, is armed there for the port, which is one,
   -- and has no entry on its way.
   pub record IsReady (d n port j : ℕ) (M : Memory) (G : Ghost) : Type 0 where
     pub low : d < env.geometry.callers

@@ -346,7 +346,7 @@ module _ (env : Env) (mix : ℕ → ℕ → ℕ → ℕ) where
     pub distinct : IsDistinct (n ∷ behind)
     pub each : (m : ℕ) → In m behind → G.node m ≡ Behind port
 
-  -- who owns each node is what chains and lists say; in a table of one owner a port is bound to one node at most; and a bound port has 32 bits
+  -- who owns each node is what chains and lists say; in a table of one owner a port is bound to one node at most; and what is bound is a port
   pub record Owned (M : Memory) (G : Ghost) : Type 0 where
     pub member : (j n : ℕ) → In n (G.bucket j).nodes → G.node n ≡ First j
     pub first_at : (n j : ℕ) → G.node n ≡ First j → IsFirstAt M G n j
