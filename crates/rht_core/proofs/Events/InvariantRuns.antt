@@ -278,7 +278,7 @@ module _ (env : Env) (mix : ℕ → ℕ → ℕ → ℕ) where
       pub inv : Inv env mix L core ghost
       pub all : AllIn L mix env core
 
-    pub has_inv : (events : List Event) → IsAdmitted env.config.kind events
+    pub has_inv : (events : List Event) → IsAdmitted events
         → HasInv (run_of {M = L} mix env events).core
     has_inv events admitted =
         run_keeps_admitted L mix env.config.kind (λ (w : World L). HasInv w.core)

@@ -411,7 +411,7 @@ module _ (M : Type 0) (mix : ℕ → ℕ → ℕ → ℕ) (env : Env) where
             all.locals;
       }
 
-  pub event-all : (w : World M) (event : Event) → IsAdmittedEvent env.config.kind event → AllIn w.core
+  pub event-all : (w : World M) (event : Event) → IsAdmittedEvent event → AllIn w.core
       → AllIn (world_step mix w event).core
   event-all w Enroll admitted all = record {
     stays = stays-in M mix env w Enroll all.stays;
@@ -427,7 +427,7 @@ module _ (M : Type 0) (mix : ℕ → ℕ → ℕ → ℕ) (env : Env) where
       let after = step-all w.core c (planned_in w.core c) refl all in
       record { stays = stays-in M mix env w (Step c) all.stays; words = after.words; locals = after.locals }
 
-  pub runs-all : (events : List Event) → IsAdmitted env.config.kind events
+  pub runs-all : (events : List Event) → IsAdmitted events
       → AllIn (run_of mix env events).core
   runs-all events admitted =
       run_keeps_admitted M mix env.config.kind (λ (w : World M). AllIn w.core) event-all (opening env)
@@ -457,7 +457,7 @@ module _ (M : Type 0) (mix : ℕ → ℕ → ℕ → ℕ) (env : Env) where
 
 module _ (M : Type 0) (mix : ℕ → ℕ → ℕ → ℕ) where
   -- the operation that a caller plans is on a word
-  pub planned_now : (env : Env) (events : List Event) → IsAdmitted env.config.kind events → (c : ℕ) (op : Op)
+  pub planned_now : (env : Env) (events : List Event) → IsAdmitted events → (c : ℕ) (op : Op)
       → plan_of (local_of (run_of {M = M} mix env events).core c) ≡ Some op → IsPlannedIn env.geometry op
   planned_now env events admitted c op is =
       let all = runs-all M mix env events admitted in

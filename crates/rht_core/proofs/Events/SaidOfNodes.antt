@@ -32,7 +32,7 @@ use Rattle.rht_callers.specs.declared.local.Doing.TheVariants.{Idle, Finding, Bi
 use Rattle.rht_callers.specs.Batches.{nodes_in, node_out, IsBatchIn, with_out, out_of}
 use Rattle.rht_callers.specs.Locals.{fresh, does_nothing}
 use Rattle.rht_core.specs.Jobs.{Job, finds, binds, lists, releases, rebinds, works, tidies, walks, counts, call_of, first_job, job_of, job_next, job_after, node_ending, told, held_of, IsFirstJob}
-use Rattle.rht_core.proofs.Events.JobsOfCallers.{first_rebind-so, first_tidy-so, same_call, first-of}
+use Rattle.rht_core.proofs.Events.JobsOfCallers.{first_tidy-so, same_call, first-of}
 use Rattle.rht_core.proofs.Events.TakenOut.{taken_with}
 use Rattle.rht_ghost.proofs.Theory.Answering.{outs_of, IsReplied}
 
@@ -251,7 +251,7 @@ longer env (Some batch) (Some node) is =
 
 -- a call says nothing of a node at its beginning
 first_says : (env : Env) (call : Call) (batch : Option BatchModel) → IfSome (first_job env batch call) SaysTaken
-first_says env (Rebind port owner new) batch = first_rebind-so SaysTaken env port owner new tt
+first_says env (Rebind port owner new) batch = tt
 first_says env Tidy batch = first_tidy-so SaysTaken batch (λ own. tt)
 first_says env _ batch = tt
 

@@ -49,7 +49,7 @@ use Rattle.rht_ghost.proofs.Pieces.Relinks.{unstored}
 use Rattle.rht_release.proofs.ReleaseKnowledge.{known_of_release, known_relinking}
 use Rattle.rht_release.proofs.RebindKnowledge.{known_of_rebind, known_replacing}
 use Rattle.rht_core.proofs.Machines.JobSteps.{JobKnows}
-use Rattle.rht_core.proofs.Events.JobsOfCallers.{first_rebind-so, first_tidy-so, first-of}
+use Rattle.rht_core.proofs.Events.JobsOfCallers.{first_tidy-so, first-of}
 
 -- ---- by the state
 
@@ -104,7 +104,7 @@ taken_with (Some job) = taken_of job
 
 -- at its beginning a call has taken none
 first-untaken : (env : Env) (call : Call) (batch : Option BatchModel) → IfSome (first_job env batch call) (λ job. taken_of job ≡ None)
-first-untaken env (Rebind port owner new) batch = first_rebind-so (λ job. taken_of job ≡ None) env port owner new refl
+first-untaken env (Rebind port owner new) batch = refl
 first-untaken env Tidy batch = first_tidy-so (λ job. taken_of job ≡ None) batch (λ own. refl)
 first-untaken env _ batch = refl
 

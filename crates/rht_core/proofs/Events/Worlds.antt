@@ -220,15 +220,15 @@ module _ (M : Type 0) (mix : ℕ → ℕ → ℕ → ℕ) where
 
   -- the same where only admitted events keep it
   pub run_keeps_admitted : (kind : Kind) (P : World M → Type 0)
-      → ((w : World M) (event : Event) → IsAdmittedEvent kind event → P w → P (world_step mix w event))
-      → (w : World M) (events : List Event) → IsAdmitted kind events → P w → P (run_from mix w events)
+      → ((w : World M) (event : Event) → IsAdmittedEvent event → P w → P (world_step mix w event))
+      → (w : World M) (events : List Event) → IsAdmitted events → P w → P (run_from mix w events)
   run_keeps_admitted kind P keeps w [] admitted p = p
   run_keeps_admitted kind P keeps w (event ∷ events) admitted p =
       run_keeps_admitted kind P keeps (world_step mix w event) events admitted.1 (keeps w event admitted.0 p)
 
   pub extends : Extends M mix
   extends env events event admitted more = record {
-    admitted = AllByRecursion-append (IsAdmittedEvent env.config.kind) events (event ∷ []) admitted
+    admitted = AllByRecursion-append IsAdmittedEvent events (event ∷ []) admitted
         (more, tt);
     world = run_of-push env events event;
   }

@@ -155,7 +155,7 @@ module _ (M : Type 0) (mix : ℕ → ℕ → ℕ → ℕ) (env : Env) where
       (sym (world-traced_of M mix env events))
 
   -- an enrolling leaves the bindings
-  pub enroll-agree : (events : List Event) → IsAdmitted kind events
+  pub enroll-agree : (events : List Event) → IsAdmitted events
       → Agree (at_end (events ++ Enroll ∷ [])) (at_end events)
   enroll-agree events admitted p =
       let core = (R events).world.core in
@@ -173,7 +173,7 @@ module _ (M : Type 0) (mix : ℕ → ℕ → ℕ → ℕ) (env : Env) where
       ∙ sym (ap (λ (b : Multimap). b p) (end-is events))
 
   -- nor does it take away a page that is there
-  pub enroll-stays : (events : List Event) → IsAdmitted kind events
+  pub enroll-stays : (events : List Event) → IsAdmitted events
       → (c : ℕ) → Stays events Enroll (job_of (local_of (R events).world.core c).doing)
   enroll-stays events admitted c job is there =
       let core = (R events).world.core in

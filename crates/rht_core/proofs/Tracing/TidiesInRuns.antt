@@ -454,7 +454,7 @@ module _ (M : Type 0) (mix : ℕ → ℕ → ℕ → ℕ) (env : Env) where
           (subst (λ d. IsMade M mix env so_far d view.local did) mine made) (keeps mine (Step k ∷ rest) next);
     }
 
-  kept_so : (events : List Event) (c : ℕ) (admitted : IsAdmitted env.config.kind events)
+  kept_so : (events : List Event) (c : ℕ) (admitted : IsAdmitted events)
       → let r = traced_of {M = M} mix env events in Keeps events c (sound_before env mix M events c admitted) (view_of r.world c) (r.traces c)
   kept_so events c admitted =
       let sound = sound_before env mix M events c admitted in
