@@ -61,8 +61,7 @@ impl<M: Mix> State<M> {
         })
     }
 
-    /// Performs the event. It takes no memory and refuses nothing. In a table of lists nothing is
-    /// rebound.
+    /// Performs the event. It takes no memory and refuses nothing.
     pub fn step(&mut self, event: Event) -> Stepped
         ensures { (self.new, result) ≡ core_step M.mix_of self.old event }
     {
