@@ -64,7 +64,7 @@ module _ {M : Type 0} where
   tidying_of env None = None
   tidying_of env (Some batch) = Some (Tidying (tidy_new env.geometry batch))
 
-  -- what a caller does that has this batch and is given a call; none where there is no such machine yet
+  -- what a caller does that has this batch and is given a call; none for a tidying without one
   abbrev pub machine_of : Env → ℕ → Option BatchModel → Call → Option (Doing M)
   machine_of env caller batch (Find port) = Some (Finding (find_new env caller port))
   machine_of env caller batch (Bind port owner once) = Some (Binding (bind_new env caller port owner once))
