@@ -173,5 +173,5 @@ module _ (env : Env) (Good Fit : ℕ → Type 0) (keeps_works : AreMadeGood env 
 
     pub runs-good : (events : List Event) → IsAdmitted events → HasGood (run_of mix env events)
     runs-good events admitted =
-        run_keeps_admitted L mix env.config.kind HasGood (λ w event may has. event-good w has event may) (opening env) events admitted
+        run_keeps_admitted L mix HasGood (λ w event may has. event-good w has event may) (opening env) events admitted
         opening-good

@@ -218,7 +218,7 @@ module _ (env : Env) (mix : ℕ → ℕ → ℕ → ℕ) (L : Type 0) where
 
   pub has_books : (events : List Event) → IsAdmitted events → HasBooks (run_of mix env events)
   has_books events admitted =
-      run_keeps_admitted L mix env.config.kind HasBooks
+      run_keeps_admitted L mix HasBooks
       (λ w event may has.
       let k = kept env mix L w.core has.ghost event has.all has.inv in
       record {

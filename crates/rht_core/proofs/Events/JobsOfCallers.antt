@@ -34,8 +34,6 @@ use Rattle.rht_callers.specs.declared.local.Doing.TheVariants.{Idle, Finding, Bi
 use Rattle.rht_callers.specs.Locals.{fresh, does_nothing, machine_of, doing_plan, doing_after, owners_after, room_given, pairs_after, pairs_given, local_after, ending_of, doing_next, without_node, IsDoingOf, IsLocalOf}
 use Rattle.rht_core.specs.Laws.{IsDoingIn}
 use Rattle.rht_core.specs.Jobs.{listing_ending, node_ending, Job, finds, binds, releases, rebinds, lists, works, tidies, tidying, tidied, walks, walk_ending, walk_gone, counts, call_of, first_job, first_tidy, job_plan, job_after, job_next, job_of, told, held_of, IsFirstJob}
-use Rattle.rht_words.specs.declared.config.Kind.{Kind}
-use Rattle.rht_words.specs.declared.config.Kind.TheVariants.{Single, Listed}
 use Rattle.rht_release.specs.Release as release
 use Rattle.rht_release.specs.Rebind as rebind
 use Rattle.rht_move.specs.Work as work

@@ -145,7 +145,7 @@ module _ (M : Type 0) where
         owner_in = admitted.1;
         at_in = tt;
       })
-      (λ port owner new single admitted. record {
+      (λ port owner new admitted. record {
         same_env = refl;
         same_caller = refl;
         port_in = admitted.0;
@@ -430,7 +430,7 @@ module _ (M : Type 0) (mix : ℕ → ℕ → ℕ → ℕ) (env : Env) where
   pub runs-all : (events : List Event) → IsAdmitted events
       → AllIn (run_of mix env events).core
   runs-all events admitted =
-      run_keeps_admitted M mix env.config.kind (λ (w : World M). AllIn w.core) event-all (opening env)
+      run_keeps_admitted M mix (λ (w : World M). AllIn w.core) event-all (opening env)
       events admitted opens-all
 
   -- ---- who is enrolled

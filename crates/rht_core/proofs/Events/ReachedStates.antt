@@ -86,10 +86,7 @@ module _ (M : Type 0) (mix : ℕ → ℕ → ℕ → ℕ) where
       ∙ ap (λ (k : Core M). (core_step mix k event).0) reached.same in
       record {
         events = events;
-        admitted =
-            subst (λ (e : Env). AllByRecursion IsAdmittedEvent events) env
-            (AllByRecursion-append IsAdmittedEvent reached.events (event ∷ [])
-            reached.admitted (more, tt));
+        admitted = AllByRecursion-append IsAdmittedEvent reached.events (event ∷ []) reached.admitted (more, tt);
         same = subst (λ (e : Env). (run_of {M = M} mix e events).core ≡ after) env same;
       }
 

@@ -268,7 +268,7 @@ module _ (env : Env) (mix : ℕ → ℕ → ℕ → ℕ) where
 
     has_right : (events : List Event) → IsAdmitted events → HasRight (run_of {M = L} mix env events).core
     has_right events admitted =
-        run_keeps_admitted L mix env.config.kind (λ (w : World L). HasRight w.core)
+        run_keeps_admitted L mix (λ (w : World L). HasRight w.core)
         (λ w event may before.
         let k = kept env mix L w.core before.has.ghost event before.has.all before.has.inv in
         record {

@@ -4,7 +4,6 @@ use Rattle.std.proofs.Common.{◌≡◌, ℕ, ◌<◌, ◌≤◌, List, [], ◌�
 use Rattle.std.specs.List.{AllByRecursion}
 use Rattle.std.proofs.lemmas.List.{length_push}
 use Rattle.rht_words.specs.declared.env.Env.{Env}
-use Rattle.rht_words.specs.declared.config.Kind.{Kind}
 use Rattle.rht_words.specs.Operations.{applied}
 use Rattle.rht_words.proofs.EachElement.{AllByRecursion-weaker}
 use Rattle.rht_model.specs.Multimap.{Multimap, Agree}
@@ -32,9 +31,6 @@ use Rattle.rht_core.proofs.Histories.CallerEntries.{IsEarly, early-more, IsTail,
 use Rattle.rht_core.proofs.Histories.CallEnds.{AreEnded}
 
 module _ (M : Type 0) (mix : ℕ → ℕ → ℕ → ℕ) (env : Env) where
-  abbrev kind : Kind
-  kind = env.config.kind
-
   abbrev R : List Event → Traced M
   R events = traced_of mix env events
 

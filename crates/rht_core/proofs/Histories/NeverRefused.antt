@@ -379,8 +379,7 @@ roomy_takes_all M mix config auto commands endings closed served roomy =
     let same = served.config_same in
     let (history, tells) = told M mix config auto commands endings closed served in
     subst (λ (k : Config). AreAllTaken k commands endings closed) same
-    (all_taken M mix env auto commands endings served.events
-    (subst (λ (k : Config). IsAdmitted served.events) (sym same) served.admitted)
+    (all_taken M mix env auto commands endings served.events served.admitted
     (served.workers ∙ ap (λ (k : Config). k.callers) (sym same))
     (λ c low. served.each c (subst (λ (k : Config). c < k.callers) same low))
     closed served.closed_is
@@ -414,9 +413,8 @@ one_worker_only M mix config auto commands endings closed served small enough =
     let env = served.env in
     let same = served.config_same in
     let (history, tells) = told M mix config auto commands endings closed served in
-    let admitted = subst (λ (k : Config). IsAdmitted served.events) (sym same) served.admitted in
     subst (λ (k : Config). AreAsModel k.kind (calls_of 1 commands) (endings_by 0 endings) closed) same
-    (as_model M mix env auto commands endings served.events admitted
+    (as_model M mix env auto commands endings served.events served.admitted
     (served.workers ∙ ap (λ (k : Config). k.callers) (sym same))
     (λ c low. served.each c (subst (λ (k : Config). c < k.callers) same low))
     (subst (λ (k : Config). IsSmallFor k (calls_of 1 commands)) (sym same) small)

@@ -439,13 +439,12 @@ unfolding told_as told_of
 told M mix config auto commands endings closed served =
     let env = served.env in
     let same = served.config_same in
-    let admitted = subst (λ (k : Config). IsAdmitted served.events) (sym same) served.admitted in
-    let (history, fitting) = fits M mix env served.events admitted in (
+    let (history, fitting) = fits M mix env served.events served.admitted in (
       history_of history,
       record {
         told =
             told_as env.config config auto commands endings closed (history_of history) same
-            (told_of M mix env auto commands endings served.events admitted
+            (told_of M mix env auto commands endings served.events served.admitted
             (served.workers ∙ ap (λ (k : Config). k.callers) (sym same))
             (λ c low. served.each c (subst (λ (k : Config). c < k.callers) same low))
             history fitting closed served.closed_is);

@@ -123,7 +123,8 @@ pub record IsRebindingIn (env : Env) (new : ℕ) (state : RebindAt) : Type 0 whe
   pub new_in : new < 2 ^ 32
   pub at_in : IsRebindAtIn env state
 
--- What is said of a job by its machine: that all it names is the table's, and that what its state keeps fits its port and its owner. Of a tidying it is said which nodes its caller has.
+-- What is said of a job by its machine: that all it names is the table's, and that what its state keeps fits its port and its owner. Of a
+-- tidying it is said which nodes its caller has.
 pub record JobFacts : Type 1 where
   pub within : Type 0
   pub fits : Ghost → Type 0

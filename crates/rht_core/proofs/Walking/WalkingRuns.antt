@@ -4,7 +4,6 @@ use Rattle.std.proofs.Common.{◌≡◌, ℕ, ◌<◌, List, [], ◌∷◌, ◌+
 use Rattle.std.proofs.lemmas.Bool.{cases_eq}
 use Rattle.rht_words.specs.declared.op.Op.{Op}
 use Rattle.rht_words.specs.declared.env.Env.{Env}
-use Rattle.rht_words.specs.declared.config.Kind.{Kind}
 use Rattle.rht_words.specs.Operations.{old_of}
 use Rattle.rht_words.proofs.EachElement.{AllByRecursion-cut}
 use Rattle.rht_model.specs.declared.history.Call.{Call}
@@ -34,9 +33,6 @@ use Rattle.rht_core.proofs.Walking.WalksAtEvents.{JobWalks, AreWalking, count', 
 use Rattle.rht_core.proofs.Walking.EndedWalks.{ports_then, pasts_later, WalksThen, own_walks, walks_stay, first_walks}
 
 module _ (L : Type 0) (mix : ℕ → ℕ → ℕ → ℕ) (env : Env) where
-  abbrev kind : Kind
-  kind = env.config.kind
-
   abbrev Rs : List Event → Traced L
   Rs events = traced_of mix env events
 
