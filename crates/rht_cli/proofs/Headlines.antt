@@ -30,7 +30,7 @@ finds_and_spares : (config : Config) (auto : Bool) (commands : List (ℕ × Call
     → FindsAndSpares (tag_of config.hash) (mix_named config) such.env such.events
 finds_and_spares config auto commands endings closed such =
     let M : Type 0 = tag_of config.hash in
-    let admitted = subst (λ (k : Config). IsAdmitted k.kind such.events) (sym such.config_same) such.admitted in
+    let admitted = subst (λ (k : Config). IsAdmitted such.events) (sym such.config_same) such.admitted in
     record {
       found = λ c. finds_what_stays M (mix_named config) such.env such.events c admitted;
       safe = safe M (mix_named config) such.env such.events admitted;

@@ -138,7 +138,7 @@ module _ (M : Type 0) (script : Script) (outcome : Outcome M) (is : IsOutcome M 
       env = outcome.table.env;
       config_same = is.config;
       events = end.end.events;
-      admitted = subst (λ (c : Config). IsAdmitted c.kind end.end.events) is.config end.end.admitted;
+      admitted = subst (λ (c : Config). IsAdmitted end.end.events) is.config end.end.admitted;
       workers = is.replies;
       each = λ caller below.
           let length_passes = is.passes in

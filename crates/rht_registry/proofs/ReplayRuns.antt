@@ -36,7 +36,7 @@ module _ (env : Env) where
   small-worker worker last =
       let few = env.geometry.within.callers_within.1 in omega (arith, last, few)
 
-  enrolls-admitted : (n : ℕ) → IsAdmitted env.config.kind (replicate n Enroll)
+  enrolls-admitted : (n : ℕ) → IsAdmitted (replicate n Enroll)
   enrolls-admitted zero = tt
   enrolls-admitted (suc n) = (tt, enrolls-admitted n)
 
@@ -63,17 +63,17 @@ module _ (env : Env) where
 module _ {M : Type 0} (mix : ℕ → ℕ → ℕ → ℕ) (env : Env) where
   -- the run of these events leaves what the replay has, and each call that is left may begin
   record IsLed (p : Playing M) (events : List Event) : Type 0 where
-    admitted : IsAdmitted env.config.kind events
+    admitted : IsAdmitted events
     same : (run_of {M = M} mix env events).core ≡ p.core
     left : (c : ℕ) → AllByRecursion (MayBegin env) (p.left c)
 
   -- ---- one event
 
   -- one event more of the run
-  push-led : (p q : Playing M) (events : List Event) (event : Event) → IsLed p events → IsAdmittedEvent env.config.kind event
+  push-led : (p q : Playing M) (events : List Event) (event : Event) → IsLed p events → IsAdmittedEvent event
       → q.core ≡ (core_step mix p.core event).0 → ((c : ℕ) → AllByRecursion (MayBegin env) (q.left c)) → IsLed q (events ++ event ∷ [])
   push-led p q events event led may is left = record {
-    admitted = AllByRecursion-append (IsAdmittedEvent env.config.kind) events (event ∷ []) led.admitted (may, tt);
+    admitted = AllByRecursion-append IsAdmittedEvent events (event ∷ []) led.admitted (may, tt);
     same =
         ap (λ (w : World M). w.core) (run_of-push M mix env events event)
         ∙ ap (λ (k : Core M). (core_step mix k event).0) led.same ∙ sym is;

@@ -56,7 +56,7 @@ pub record IsDrawer {M : Type 0} (env : Env) (enrolled drawer seat : ℕ) (view 
 -- views: it has one owner, the seat whose view has it. And one seat draws numbers.
 pub record Holds {M : Type 0} (mix : ℕ → ℕ → ℕ → ℕ) (env : Env) (s : State (Unit {0}) (SeatView M)) : Type 0 where
   pub events : List Event
-  pub admitted : IsAdmitted env.config.kind events
+  pub admitted : IsAdmitted events
   pub words : IsLaidOut s.words (run_of {M = M} mix env events).core.words
   pub counted :
       let core = (run_of {M = M} mix env events).core in
@@ -91,7 +91,7 @@ module _ {M : Type 0} where
   -- one run with the table's config has all that the view says of callers
   pub record IsInRun (mix : ℕ → ℕ → ℕ → ℕ) (view : SeatView M) : Type 0 where
     pub events : List Event
-    pub admitted : IsAdmitted view.env.config.kind events
+    pub admitted : IsAdmitted events
     pub shows : (held : Held M) → In held view.held → Shows view.env (run_of mix view.env events) held
 
   -- ---- a step of a call

@@ -241,7 +241,7 @@ module _ (M : Type 0) (mix : ℕ → ℕ → ℕ → ℕ) (env : Env) (events : 
 
   -- ---- callers
 
-  module _ (admitted : IsAdmitted env.config.kind events) where
+  module _ (admitted : IsAdmitted events) where
     abbrev w : World M
     w = run_of mix env events
 

@@ -23,7 +23,7 @@ use Rattle.rht_core.specs.Jobs.{Job, finds, call_of, first_job, job_next, job_af
 use Rattle.rht_core.specs.Lookups.{IsLoad, IsReading, HasRead, ReadsInside}
 use Rattle.rht_core.specs.Traces.{Did}
 use Rattle.std.specs.Prelude.{IfSome, ◌⊎◌}
-use Rattle.rht_core.proofs.Events.JobsOfCallers.{first_rebind-so, first_tidy-so, each_goes, same_call, first-of}
+use Rattle.rht_core.proofs.Events.JobsOfCallers.{first_tidy-so, each_goes, same_call, first-of}
 use Rattle.rht_core.proofs.Tracing.TracedJobs.{Performs, LeadsOn, IsAtJob, jobs_keep_own}
 
 -- its operation loads a word, where its section is open and it isn't about to close it
@@ -109,7 +109,7 @@ module _ (mix : ℕ → ℕ → ℕ → ℕ) (env : Env) (c : ℕ) where
 
   first-now : (call : Call) (batch : Option BatchModel) → IfSome (first_job env batch call) (λ job. Now job [])
   first-now (Find port) batch = refl
-  first-now (Rebind port owner new) batch = first_rebind-so (λ job. Now job []) env port owner new tt
+  first-now (Rebind port owner new) batch = tt
   first-now (Walk from limit) batch = tt
   first-now Tidy batch = first_tidy-so (λ job. Now job []) batch (λ own. tt)
   first-now _ batch = tt

@@ -54,7 +54,7 @@ use Rattle.rht_core.specs.Standings.{standing_of, standing_with}
 use Rattle.rht_ghost.proofs.Theory.Ghosts.{Ghost}
 use Rattle.rht_ghost.proofs.Theory.Steps.{mem}
 use Rattle.rht_ghost.proofs.Theory.Wholes.{Whole}
-use Rattle.rht_core.proofs.Events.JobsOfCallers.{first_rebind-so, first_tidy-so, first-of}
+use Rattle.rht_core.proofs.Events.JobsOfCallers.{first_tidy-so, first-of}
 use Rattle.rht_core.proofs.Finding.Lookups.{LookMeans}
 use Rattle.rht_core.proofs.Finding.Places.{Places}
 use Rattle.rht_core.proofs.Machines.JobSteps.{JobIn, JobKnows}
@@ -200,7 +200,7 @@ job_outside mix env counts out = record { before = refl; behind = λ old. refl }
 
 -- a call begins nowhere
 first-nowhere : (env : Env) (call : Call) (batch : Option BatchModel) → IfSome (first_job env batch call) (λ job. standing_of job ≡ stands_nowhere)
-first-nowhere env (Rebind port owner new) batch = first_rebind-so (λ job. standing_of job ≡ stands_nowhere) env port owner new refl
+first-nowhere env (Rebind port owner new) batch = refl
 first-nowhere env Tidy batch = first_tidy-so (λ job. standing_of job ≡ stands_nowhere) batch (λ own. refl)
 first-nowhere env _ batch = refl
 

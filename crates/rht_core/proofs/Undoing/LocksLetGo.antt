@@ -37,7 +37,7 @@ use Rattle.rht_ghost.proofs.Theory.Ghosts.{Ghost}
 use Rattle.rht_ghost.proofs.Theory.Steps.{Holding, mem, Does, Move, TakesNode, GivesNode, Links, Rebinds, SaysChange}
 use Rattle.rht_core.proofs.Machines.JobSteps.{JobIn}
 use Rattle.rht_core.proofs.Machines.NeverHeld.{tableless, front-tableless, pageless}
-use Rattle.rht_core.proofs.Events.JobsOfCallers.{same_call, first_holds, first_without, first-of, first_rebind-so, first_tidy-so}
+use Rattle.rht_core.proofs.Events.JobsOfCallers.{same_call, first_holds, first_without, first-of, first_tidy-so}
 use Rattle.rht_core.proofs.Events.SectionsInRuns.{SparesSections, odd_by, by_move}
 use Rattle.rht_core.proofs.Tracing.TracedJobs.{Performs, LeadsOn, IsEndedSo}
 use Rattle.rht_core.proofs.Tracing.JobsBeside.{kept_beside}
@@ -439,7 +439,7 @@ module _ (M : Type 0) (mix : ℕ → ℕ → ℕ → ℕ) (env : Env) (events : 
 
   first-turned : (call : Call) (batch : Option BatchModel) → IfSome (first_job env batch call) (λ job. TurnedInStage (stage_of job) job [])
   first-turned (Rebind port owner new) batch =
-      first_rebind-so (λ job. TurnedInStage (stage_of job) job []) env port owner new (none_turned (Rebind port owner new))
+      (none_turned (Rebind port owner new))
   first-turned Tidy batch = first_tidy-so (λ job. TurnedInStage (stage_of job) job []) batch (λ own. none_turned Tidy)
   first-turned Work batch = tt
   first-turned call batch = none_turned call
