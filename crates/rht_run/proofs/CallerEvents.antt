@@ -72,7 +72,7 @@ module _ (M : Type 0) (mix : ℕ → ℕ → ℕ → ℕ) (env : Env) where
 
     pub begin_admitted : (call : Call) → MayBegin env held.number call held.local
         → IsAdmittedEvent (Begin held.number call)
-    begin_admitted call can = (number_fits, can.admitted, can.built)
+    begin_admitted call can = (number_fits, can.admitted)
 
     -- one more event gives it a call that it may begin
     pub begin_shown : (call : Call) → MayBegin env held.number call held.local

@@ -43,13 +43,13 @@ owner_search_after p word = search_told p.env p.owner (search_after p.env.geomet
 
 module _ {M : Type 0} (caller port : ℕ) (found : FoundPort) where
   -- a release has found the owner's node, or found that the port isn't bound to the owner
+  abbrev pub release_then : Env → ℕ → Option ListPlace → Doing M × Option (Reply × Option ℕ)
+  release_then env owner None = (release_at env caller port owner (unlocking found None), None)
+  release_then env owner (Some place) =
+      (release_at env caller port owner (releases.LinkBehind found place.node place.before), None)
+
   abbrev pub release_searched : OwnerSought → Doing M × Option (Reply × Option ℕ)
-  release_searched there = searched_so there.place
-    where
-      abbrev searched_so : Option ListPlace → Doing M × Option (Reply × Option ℕ)
-      searched_so None = (release_at there.env caller port there.owner (unlocking found None), None)
-      searched_so (Some place) =
-          (release_at there.env caller port there.owner (releases.LinkBehind found place.node place.before), None)
+  release_searched there = release_then there.env there.owner there.place
 
   pub release_searching : (env : Env) (owner : ℕ) (next : ListSearch × Next (Option ListPlace))
       → ◌≡◌ {A = Doing M × Option (Reply × Option ℕ)} (release_at env caller port owner (release_searched_at found next.0 next.1), None)
@@ -61,14 +61,14 @@ module _ {M : Type 0} (caller port : ℕ) (found : FoundPort) where
 
   module _ (new node : ℕ) where
     -- and so has a rebind, of the old owner
+    abbrev pub rebind_then : Env → ℕ → Option ListPlace → Doing M × Option (Reply × Option ℕ)
+    rebind_then env owner None =
+        (rebind_at env caller port owner new (rebind_unlocking found (ends.Absent node)), None)
+    rebind_then env owner (Some place) =
+        (rebind_at env caller port owner new (rebinds.LinkBehind node found place.node place.before), None)
+
     abbrev pub rebind_searched : OwnerSought → Doing M × Option (Reply × Option ℕ)
-    rebind_searched there = searched_so there.place
-      where
-        abbrev searched_so : Option ListPlace → Doing M × Option (Reply × Option ℕ)
-        searched_so None =
-            (rebind_at there.env caller port there.owner new (rebind_unlocking found (ends.Absent node)), None)
-        searched_so (Some place) =
-            (rebind_at there.env caller port there.owner new (rebinds.LinkBehind node found place.node place.before), None)
+    rebind_searched there = rebind_then there.env there.owner there.place
 
     pub rebind_searching : (env : Env) (owner : ℕ) (next : ListSearch × Next (Option ListPlace))
         → ◌≡◌ {A = Doing M × Option (Reply × Option ℕ)}
