@@ -14,7 +14,7 @@ use Rattle.rht_core.specs.declared.event.Event.{Event}
 use Rattle.rht_core.specs.declared.event.Event.TheVariants.{Enroll, Begin, Step}
 use Rattle.rht_core.specs.declared.event.Stepped.{Stepped}
 use Rattle.rht_core.specs.Locals.{is_idle}
-use Rattle.rht_core.specs.Runs.{Core, World, local_of, core_step, run_of, IsAdmitted, IsAdmittedCall, IsAdmittedEvent, IsBuiltFor}
+use Rattle.rht_core.specs.Runs.{Core, World, local_of, core_step, run_of, IsAdmitted, IsAdmittedCall, IsAdmittedEvent}
 use Rattle.rht_core.specs.Serving.{calls_of}
 use Rattle.rht_core.proofs.Events.Worlds.{run_of-push}
 use Rattle.rht_script.specs.declared.script.Script.{Script}
@@ -26,7 +26,7 @@ use Rattle.rht_registry.specs.Players.{IsLineFor}
 module _ (env : Env) where
   -- a call that may begin in a run
   abbrev pub MayBegin : Call → Type 0
-  MayBegin call = IsAdmittedCall call × IsBuiltFor env.config.kind call
+  MayBegin call = IsAdmittedCall call
 
   -- the line is one of the table's workers'
   abbrev IsFor : Sched → Type 0

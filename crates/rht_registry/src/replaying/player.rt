@@ -3,7 +3,6 @@
 ghost use Rattle.std.specs.Prelude.{◌≡◌, ◌+◌, ◌^◌, ◌<◌, ◌≤◌, ℕ, List, Some, drop, length, IfOk, IfSome, slice_get, slice_index, slice_set, vec_len};
 ghost use Rattle.rht_words.specs.Settled.{IsSettled};
 ghost use Rattle.rht_model.specs.declared.history.Call.{Call};
-ghost use Rattle.rht_core.specs.Runs.{IsBuiltFor};
 ghost use Rattle.rht_core.specs.Serving.{calls_of};
 ghost use Rattle.rht_registry.specs.Replays.{playing_from, readied, event_of, is_through};
 ghost use Rattle.rht_registry.specs.Players.{playing_of, CanPlay, Takes, AreEnrolled};
@@ -102,7 +101,6 @@ impl<M: Mix> Player<M> {
         requires can { CanPlay commands.now self.old }
         requires caller { caller < self.old.state.env.geometry.callers }
         ensures taken { Takes (playing_of commands.now self.old) (playing_of commands.now self.new) caller result }
-        ensures built { IfSome result (IsBuiltFor self.old.state.env.config.kind) }
         ensures state { self.new.state ≡ self.old.state }
         ensures made { self.new.made ≡ self.old.made }
         ensures can { CanPlay commands.now self.new }

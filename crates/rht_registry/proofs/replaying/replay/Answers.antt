@@ -31,8 +31,6 @@ play_schedule-requires-clause-can g c =
     let player = c.in_ok-player.player in
     record {
       places = c.in_ok-player.ensures.places;
-      built = commands-for script.form script.config player.state.env script.commands.items c.deref.result.now c.in_ok-player.ensures.config
-          c.deref.ensures.value c.requires.sound.commands;
     }
 
 pub play_schedule-requires-clause-lines : goal.play_schedule-requires-clause-lines

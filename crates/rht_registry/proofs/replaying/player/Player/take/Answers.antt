@@ -5,7 +5,7 @@ use Rattle.std.proofs.lemmas.List.{length-set}
 use Rattle.std.proofs.lemmas.List.Elements.{All-from_recursion}
 use Rattle.rht_model.specs.declared.history.Call.{Call}
 use Rattle.rht_model.specs.declared.history.Call.TheVariants.{Bind}
-use Rattle.rht_core.specs.Runs.{Core, IsBuiltFor}
+use Rattle.rht_core.specs.Runs.{Core}
 use Rattle.rht_core.specs.Serving.{calls_of}
 use Rattle.rht_registry.specs.declared.replaying.player.Player.{Player}
 use Rattle.rht_registry.proofs.NextCommands.{calls_of-own, calls_of-past}
@@ -52,14 +52,6 @@ returns-clause-taken g c =
           (ap (λ next. slice_set next caller (place + 1)) c.look-place.ensures.next) c.look-place.ensures.left
           c.look-place.ensures.state c.look-place.ensures.made c.look-place.ensures.over,
     )
-
-pub returns-clause-built : goal.returns-clause-built
-returns-clause-built g c =
-    let commands = c.args.commands.now in
-    let kind = c.args.self.now.state.env.config.kind in
-    let within : c.look-place.result < length commands = c.if-place-commands.false in
-    All-from_recursion (λ (command : ℕ × Call). IsBuiltFor kind command.1) commands c.requires.can.built c.look-place.result
-    (0, Bind 0 0 false) within
 
 pub returns-clause-can : goal.returns-clause-can
 returns-clause-can g c =
