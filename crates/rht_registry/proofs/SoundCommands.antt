@@ -6,8 +6,6 @@ use Rattle.std.specs.List.{AllByRecursion, list_all}
 use Rattle.std.proofs.lemmas.Bool.{leb-true, ltb-true, eq-eqb, eqb-true}
 use Rattle.std.proofs.lemmas.List.Elements.{All-from_recursion}
 use Rattle.rht_words.specs.declared.config.Config.{Config}
-use Rattle.rht_words.specs.declared.config.Kind.{Kind}
-use Rattle.rht_words.specs.declared.config.Kind.TheVariants.{Single, Listed}
 use Rattle.rht_words.specs.declared.limits.Limits.{Limits}
 use Rattle.rht_words.specs.Ports.{IsPort, net_of}
 use Rattle.rht_words.specs.Settled.{IsSettled}
@@ -17,7 +15,7 @@ use Rattle.rht_core.specs.Runs.{IsAdmittedCall}
 use Rattle.rht_core.specs.Serving.{calls_of}
 use Rattle.rht_script.specs.CommandLines.{owner_limits, worker_limits}
 use Rattle.rht_script.specs.PortWords.{net_and_number, is_port_in}
-use Rattle.rht_script.specs.Sound.{is_single, is_sound_call, has_sound_numbers, is_sound_command}
+use Rattle.rht_script.specs.Sound.{is_sound_call, has_sound_numbers, is_sound_command}
 use Rattle.rht_script.specs.Spelling.{is_within}
 
 -- the command is one of so many workers', and its call can be run in a table of this config
