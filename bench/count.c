@@ -9,12 +9,12 @@
 
 LOOP releases(const struct table *t, struct ports ports) {
   u32 right = 0;
-  for (u32 i = 0; i < ports.count; i++) right += is_done(release(t, ports.caller, ports.first + i, OWNER));
+  for (u32 i = 0; i < ports.count; i++) right += is_done(release(t, ports.caller, port_in(ports, ports.first + i), OWNER));
   return right;
 }
 
 int main(int count, char **words) {
-  struct ports ports = {0, count > 1 ? (u32)strtoul(words[1], NULL, 10) : 1000, 0};
+  struct ports ports = {0, count > 1 ? (u32)strtoul(words[1], NULL, 10) : 1000, 0, net_of_ports, NULL};
   struct table t;
   open_table(&t, 65536, 2048, 1, ports.count);
   u32 right = binds(&t, ports);

@@ -42,6 +42,7 @@
 #define OFFSET 0
 #endif
 
+typedef uint16_t u16;
 typedef uint32_t u32;
 typedef uint64_t u64;
 typedef _Atomic u64 word;
@@ -135,12 +136,26 @@ ALWAYS u32 size_of(u64 shape) {
   return (u32)1 << exponent;
 }
 
-/* ---- the hash */
+/* ---- ports, and their hash */
+
+/* A net, and a number in it. */
+struct port {
+  u16 net;
+  u32 number;
+};
+
+/* the key word of a port, which its node has */
+ALWAYS u64 word_of(struct port port) { return (u64)port.net << 32 | port.number; }
+
+ALWAYS struct port port_of(u64 word) { return (struct port){(u16)(word >> 32), (u32)word}; }
+
+/* The net of all ports here. It is read anew where a loop begins, so no compiler knows that it is 0. */
+static volatile u16 net_of_ports = 0;
 
 ALWAYS u32 rotated(u32 x, u32 by) { return x << by | x >> (32 - by); }
 
-ALWAYS u32 mixed_hash(u32 port, u32 seed) {
-  u32 a = port, b = 0, c = seed;
+ALWAYS u32 mixed_hash(struct port port, u32 seed) {
+  u32 a = port.number, b = port.net, c = seed;
   c ^= b, c -= rotated(b, 14);
   a ^= c, a -= rotated(c, 11);
   b ^= a, b -= rotated(a, 25);
@@ -151,8 +166,8 @@ ALWAYS u32 mixed_hash(u32 port, u32 seed) {
   return c;
 }
 
-ALWAYS u32 bucket_of(bool low, u32 port, u64 shape, u64 seed) {
-  u32 hash = low ? port : mixed_hash(port, (u32)seed);
+ALWAYS u32 bucket_of(bool low, struct port port, u64 shape, u64 seed) {
+  u32 hash = low ? port.number : mixed_hash(port, (u32)seed);
   return hash & (size_of(shape) - 1);
 }
 
@@ -213,7 +228,7 @@ struct probed {
 
 /* Loads the table's shape and seed, locks the port's bucket and walks its chain. False where the
  * bucket is missing. */
-ALWAYS bool probe(const struct table *t, bool low, u32 slot, u32 port, struct probed *p) {
+ALWAYS bool probe(const struct table *t, bool low, u32 slot, struct port port, struct probed *p) {
   p->shape = load(slot_word(t, slot, SHAPE));
   u64 seed = load(slot_word(t, slot, SEED));
   u64 index = 64 * (p->shape / 1024 % ((u64)1 << 32)) + bucket_of(low, port, p->shape, seed);
@@ -235,7 +250,7 @@ ALWAYS bool probe(const struct table *t, bool low, u32 slot, u32 port, struct pr
   while (node != NONE) {
     u64 key = load(node_word(t, node, KEY));
     p->length += CLAMPS ? p->length != UINT32_MAX : 1;
-    if (key == port) {
+    if (key == word_of(port)) {
       p->found = node;
       break;
     }
@@ -260,11 +275,12 @@ ALWAYS void relink(const struct table *t, const struct probed *p, u32 before, u6
 /* ---- the calls */
 
 struct pair {
-  u32 port, owner;
+  struct port port;
+  u32 owner;
 };
 
 /* Where the port's bucket is in the table of this slot; 0 where the bucket is missing. */
-ALWAYS size_t reach(const struct table *t, bool low, u32 slot, u32 port) {
+ALWAYS size_t reach(const struct table *t, bool low, u32 slot, struct port port) {
   u64 shape = load(slot_word(t, slot, SHAPE));
   u64 seed = load(slot_word(t, slot, SEED));
   u64 index = 64 * (shape / 1024 % ((u64)1 << 32)) + bucket_of(low, port, shape, seed);
@@ -276,13 +292,13 @@ ALWAYS size_t reach(const struct table *t, bool low, u32 slot, u32 port) {
 
 /* Walks the bucket's chain without its lock. False where the port isn't there. A strange end is walked
  * again, so often. */
-ALWAYS bool walk(const struct table *t, size_t place, u32 port, u32 *owner) {
+ALWAYS bool walk(const struct table *t, size_t place, struct port port, u32 *owner) {
   for (u32 left = t->rewalks;; left--) {
     u64 link = head_of(place, load(at(t, place)));
     for (u32 visited = 0;; visited++) {
       u32 node = node_of(t, link);
       if (node == NONE || (CLAMPS && visited >= t->nodes)) break;
-      if (load(node_word(t, node, KEY)) == port) {
+      if (load(node_word(t, node, KEY)) == word_of(port)) {
         *owner = (u32)load(node_word(t, node, OWNER_WORD));
         return true;
       }
@@ -292,7 +308,7 @@ ALWAYS bool walk(const struct table *t, size_t place, u32 port, u32 *owner) {
   }
 }
 
-ALWAYS reply looked_up(const struct table *t, bool low, u32 port) {
+ALWAYS reply looked_up(const struct table *t, bool low, struct port port) {
   u32 slot = table_of(load(single(t, CURRENT_TABLE)));
   for (;;) {
     size_t place = reach(t, low, slot, port);
@@ -305,7 +321,7 @@ ALWAYS reply looked_up(const struct table *t, bool low, u32 port) {
 }
 
 /* Within the caller's read section. */
-ALWAYS reply find_by(const struct table *t, bool low, u32 caller, u32 port) {
+ALWAYS reply find_by(const struct table *t, bool low, u32 caller, struct port port) {
   enter(t, caller);
   reply r = looked_up(t, low, port);
   leave(t, caller);
@@ -332,7 +348,7 @@ CALL u32 walk_all(const struct table *t, u32 caller, struct pair *pairs) {
     for (u32 visited = 0;; visited++) {
       u32 node = node_of(t, link);
       if (node == NONE || (CLAMPS && visited >= t->nodes)) break;
-      u32 port = (u32)load(node_word(t, node, KEY));
+      struct port port = port_of(load(node_word(t, node, KEY)));
       u32 owner = (u32)load(node_word(t, node, OWNER_WORD));
       if (!CLAMPS || len < t->nodes) pairs[len++] = (struct pair){port, owner};
       link = load(node_word(t, node, CHAIN_LINK));
@@ -386,10 +402,10 @@ ALWAYS reply unbound(const struct table *t, u32 caller, u32 node, reply r) {
 /* A bind in a table that has room. Where it has none, as where a chain of 16 nodes is full, the call
  * would attach a further table: here it is refused. Its node is taken and filled before the caller's
  * read section; where none is free, none is opened. */
-ALWAYS reply bind_by(const struct table *t, bool low, u32 caller, u32 port, u32 owner) {
+ALWAYS reply bind_by(const struct table *t, bool low, u32 caller, struct port port, u32 owner) {
   u32 node = take_node(t);
   if (node == NONE) return PLAIN_REPLY(NO_NODE);
-  store(node_word(t, node, KEY), port);
+  store(node_word(t, node, KEY), word_of(port));
   store(node_word(t, node, OWNER_WORD), owner);
   store(node_word(t, node, LIST_LINK), 0);
   enter(t, caller);
@@ -430,7 +446,7 @@ ALWAYS reply bind_by(const struct table *t, bool low, u32 caller, u32 port, u32 
   }
 }
 
-ALWAYS reply taken_out(const struct table *t, bool low, u32 port, u32 owner) {
+ALWAYS reply taken_out(const struct table *t, bool low, struct port port, u32 owner) {
   u32 slot = table_of(load(single(t, CURRENT_TABLE)));
   for (;;) {
     struct probed p;
@@ -466,7 +482,7 @@ ALWAYS reply taken_out(const struct table *t, bool low, u32 port, u32 owner) {
 }
 
 /* Within the caller's read section. */
-ALWAYS reply release_by(const struct table *t, bool low, u32 caller, u32 port, u32 owner) {
+ALWAYS reply release_by(const struct table *t, bool low, u32 caller, struct port port, u32 owner) {
   enter(t, caller);
   reply r = taken_out(t, low, port, owner);
   leave(t, caller);
@@ -474,15 +490,15 @@ ALWAYS reply release_by(const struct table *t, bool low, u32 caller, u32 port, u
 }
 
 /* The same, each by the one hash or by the other. */
-CALL reply find(const struct table *t, u32 caller, u32 port) { return find_by(t, false, caller, port); }
-CALL reply low_find(const struct table *t, u32 caller, u32 port) { return find_by(t, true, caller, port); }
-CALL reply bind(const struct table *t, u32 caller, u32 port, u32 owner) {
+CALL reply find(const struct table *t, u32 caller, struct port port) { return find_by(t, false, caller, port); }
+CALL reply low_find(const struct table *t, u32 caller, struct port port) { return find_by(t, true, caller, port); }
+CALL reply bind(const struct table *t, u32 caller, struct port port, u32 owner) {
   return bind_by(t, false, caller, port, owner);
 }
-CALL reply low_bind(const struct table *t, u32 caller, u32 port, u32 owner) {
+CALL reply low_bind(const struct table *t, u32 caller, struct port port, u32 owner) {
   return bind_by(t, true, caller, port, owner);
 }
-CALL reply release(const struct table *t, u32 caller, u32 port, u32 owner) {
+CALL reply release(const struct table *t, u32 caller, struct port port, u32 owner) {
   return release_by(t, false, caller, port, owner);
 }
 
@@ -537,15 +553,18 @@ static void open_table(struct table *t, u32 nodes, u32 pages, u32 callers, u32 h
 /* The ports of a loop, and the caller who asks for them. */
 struct ports {
   u32 first, count, caller;
+  u16 net;
   struct pair *pairs;
 };
+
+ALWAYS struct port port_in(struct ports ports, u32 number) { return (struct port){ports.net, number}; }
 
 ALWAYS bool is_done(reply r) { return IS_FOUND(r, OWNER) || IS(r, BOUND) || IS(r, RELEASED); }
 
 ALWAYS u32 hits_in(const struct table *t, bool low, struct ports ports) {
   u32 right = 0;
   for (u32 i = 0; i < ports.count; i++) {
-    u32 port = ports.first + i;
+    struct port port = port_in(ports, ports.first + i);
     reply r = low ? low_find(t, ports.caller, port) : find(t, ports.caller, port);
     right += IS_FOUND(r, OWNER);
   }
@@ -555,7 +574,7 @@ ALWAYS u32 hits_in(const struct table *t, bool low, struct ports ports) {
 ALWAYS u32 binds_in(const struct table *t, bool low, struct ports ports) {
   u32 right = 0;
   for (u32 i = 0; i < ports.count; i++) {
-    u32 port = ports.first + i;
+    struct port port = port_in(ports, ports.first + i);
     right += is_done(low ? low_bind(t, ports.caller, port, OWNER) : bind(t, ports.caller, port, OWNER));
   }
   return right;
@@ -571,7 +590,7 @@ LOOP low_binds(const struct table *t, struct ports ports) { return binds_in(t, t
 LOOP misses(const struct table *t, struct ports ports) {
   u32 right = 0;
   for (u32 i = 0; i < ports.count; i++) {
-    reply r = find(t, ports.caller, (ports.first + i) | OTHER);
+    reply r = find(t, ports.caller, port_in(ports, (ports.first + i) | OTHER));
     right += IS(r, MISSING);
   }
   return right;
@@ -579,21 +598,21 @@ LOOP misses(const struct table *t, struct ports ports) {
 
 /* Of twenty calls a bind, a release and eighteen look-ups; the ports that are left are looked up. */
 LOOP mixed(const struct table *t, struct ports ports) {
-  u32 other = ports.first | OTHER;
+  struct port other = port_in(ports, ports.first | OTHER);
   u32 blocks = ports.count / 20;
   u32 right = 0;
   for (u32 i = 0; i < blocks; i++) {
     right += is_done(bind(t, ports.caller, other, OWNER));
     right += is_done(release(t, ports.caller, other, OWNER));
-    right += hits_in(t, false, (struct ports){ports.first + 20 * i + 2, 18, ports.caller, NULL});
+    right += hits_in(t, false, (struct ports){ports.first + 20 * i + 2, 18, ports.caller, ports.net, NULL});
   }
-  return right + hits_in(t, false, (struct ports){ports.first + 20 * blocks, ports.count % 20, ports.caller, NULL});
+  return right + hits_in(t, false, (struct ports){ports.first + 20 * blocks, ports.count % 20, ports.caller, ports.net, NULL});
 }
 
 LOOP churn(const struct table *t, struct ports ports) {
   u32 right = 0;
   for (u32 i = 0; i < ports.count; i++) {
-    u32 other = (ports.first + i) | OTHER;
+    struct port other = port_in(ports, (ports.first + i) | OTHER);
     reply bound = bind(t, ports.caller, other, OWNER);
     reply released = release(t, ports.caller, other, OWNER);
     right += is_done(bound);
@@ -711,9 +730,9 @@ static struct measured all_of(const struct job *jobs, u32 threads) {
 
 /* The ports of a thread: its share of them. In `common` each thread has all of them. */
 static struct ports ports_of(struct row row, u32 thread) {
-  if (row.workload == COMMON) return (struct ports){0, row.ports, thread, NULL};
+  if (row.workload == COMMON) return (struct ports){0, row.ports, thread, net_of_ports, NULL};
   u32 count = row.ports / row.threads;
-  return (struct ports){thread * count, count, thread, NULL};
+  return (struct ports){thread * count, count, thread, net_of_ports, NULL};
 }
 
 /* Measures a row in one table. In `common` the binds of the first thread bind all ports, and those of the

@@ -26,6 +26,9 @@ function draw(    i, calls, kind, line, owners_differ, worker) {
   if (below(2)) line = line " shrink on"
   if (below(2)) line = line " hash low"
   if (below(small ? 2 : 4) == 0) line = line " work manual"
+  # ports of two nets share their numbers
+  nets = below(3) == 0
+  if (nets) line = line " form 2"
   print line
   ports = small ? 4 + below(5) : 2 + below(4)
   owners_differ = below(2)
@@ -55,7 +58,7 @@ function old_owner(port) { return times[port] ? had[port, 1 + below(times[port])
 
 # Often the port of the worker's last call: what a worker does to one port says most about the order.
 function drawn_port(worker) {
-  if (!(worker in last_port) || below(2)) last_port[worker] = 1 + below(ports)
+  if (!(worker in last_port) || below(2)) last_port[worker] = (nets && below(2) ? "3." : "") 1 + below(ports)
   return last_port[worker]
 }
 
@@ -101,10 +104,10 @@ files == 1 {
   next
 }
 $1 == "port" {
-  port = $2 + 0
+  port = $2
   if (!(port in named)) fault("port " port " is bound at last, and no call names it")
-  if (keys && port <= port_before) fault("the bound ports don't rise")
-  port_before = port
+  if (keys && key_of(port) <= key_before) fault("the bound ports don't rise")
+  key_before = key_of(port)
   keys++
   owners = $3
   for (i = 4; i <= NF; i++) owners = owners "," $i
@@ -117,6 +120,11 @@ $1 == "size" {
   next
 }
 { fault("a line that is no reply: " $0) }
+
+# ports rise by their nets, and in a net by their numbers
+function key_of(port,    part) {
+  return split(port, part, ".") == 2 ? part[1] * 4294967296 + part[2] : port + 0
+}
 
 function fault(why) {
   if (!faults++) first_fault = why

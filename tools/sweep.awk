@@ -25,7 +25,9 @@ function draw(    i, left, part, worker) {
   # few buckets, so that tables grow and shrink, also with 16 ports in one; or so few pages that a further table is nested
   if (nested) line = "table " kind " nodes " 20 + below(9) " pages " 4 + below(3) " hint 96"
   else line = "table " kind " nodes " 3 + below(30) " pages " 4 + below(9) " hint " one_of(1, 3, 6)
-  print line " workers " workers " rewalks " below(3) " hash low work manual" (below(3) ? " shrink on" : "")
+  # ports of two nets share their numbers, and by this hash their buckets
+  nets = below(2)
+  print line " workers " workers " rewalks " below(3) " hash low work manual" (below(3) ? " shrink on" : "") (nets ? " form 2" : "")
   stride = nested ? one_of(128, 128, 64) : one_of(1, 4, 64)
   ports = nested ? 24 : 2 + below(24)
   owners_differ = below(2)
@@ -41,7 +43,7 @@ function draw(    i, left, part, worker) {
 }
 
 function drawn_call(worker,    what, port, owner) {
-  port = stride * below(ports)
+  port = (nets && below(2) ? "3." : "") stride * below(ports)
   owner = owners_differ ? ++owners_so_far : 1 + below(3)
   what = below(100)
   if (what < binds[worker]) return "bind " port " " owner
@@ -64,6 +66,11 @@ function begin_masks() { all_tail = 744073709551615 }
 function cleared_by(mask) {
   if (length(mask) != 20 || substr(mask, 1, 5) != "18446") fault("a mask that clears more than a map has: " mask)
   return all_tail - substr(mask, 6)
+}
+
+# The key word of a port, as it stands in a node, by the port as it is printed.
+function key_of(port,    part) {
+  return sprintf("%.0f", split(port, part, ".") == 2 ? part[1] * 4294967296 + part[2] : port)
 }
 
 # the bits of x that are also in y, and those of both
@@ -104,6 +111,7 @@ files == 1 && $1 == "table" {
 }
 files == 1 && $1 ~ /^[0-9]+$/ {
   worker = $1
+  if (NF > 2) $3 = key_of($3)
   sub(/^[0-9]+ /, "")
   calls[worker, ++many_calls[worker]] = $0
   next
@@ -146,7 +154,8 @@ $1 == "port" {
   keys++
   owners = $3
   for (i = 4; i <= NF; i++) owners = owners "," $i
-  if (bound[$2 + 0] != owners) fault("the words say " bound[$2 + 0])
+  port = key_of($2)
+  if (bound[port] != owners) fault("the words say " bound[port])
   next
 }
 $1 == "size" {
@@ -389,7 +398,7 @@ function read_page(into, page, buckets,    i, w, link, node, visited, port) {
     if (w < 2) continue
     link = w - w % 2
     for (visited = 0; visited < nodes && (node = node_of(link)) != ""; visited++) {
-      port = word[first_node + 4 * node + 1] + 0
+      port = sprintf("%.0f", word[first_node + 4 * node + 1])
       if (!(port in into)) into[port] = list_from(link)
       link = word[first_node + 4 * node]
     }
@@ -532,6 +541,7 @@ function end_walk(w, reply,    part, many, i, pair, key, mine) {
     if (part[many] == "more" && many - 2 != nodes) fault("it is cut behind " many - 2 " ports")
     for (i = 2; i < many; i++) {
       split(part[i], pair, "=")
+      pair[1] = key_of(pair[1])
       if (pair[1] in mine) fault("it shows port " pair[1] " twice")
       mine[pair[1]] = 1
       if (!((w, pair[1], pair[2]) in shown)) fault("it shows " part[i] ", which was so at no moment")

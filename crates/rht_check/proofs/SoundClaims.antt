@@ -16,9 +16,10 @@ use Rattle.rht_script.specs.Spelling.{is_word, lines_of, is_skipped}
 use Rattle.rht_script.specs.TableLines.{table_of}
 use Rattle.rht_script.specs.CommandLines.{end_of, command_of}
 use Rattle.rht_script.specs.Grammar.{most_bytes, most_lines, at_line, words_at, coded}
+use Rattle.rht_script.specs.PortWords.{IsForm}
 use Rattle.rht_script.specs.Sound.{is_sound_command}
 use Rattle.rht_script.proofs.ReadLines.{IfOk-then, IfOk-after, IfOk-cond, IfOk-at_line, words_few}
-use Rattle.rht_script.proofs.SayableScripts.{IsSettledTable, HasOneNumber, table_settled, table_form, command_sound}
+use Rattle.rht_script.proofs.SayableScripts.{IsSettledTable, HasForm, table_settled, table_form, command_sound}
 use Rattle.rht_check.specs.declared.claim.Claim.{Claim}
 use Rattle.rht_check.specs.declared.reader.AskedLine.{AskedLine}
 use Rattle.rht_check.specs.declared.reader.AskedLine.TheVariants.{Command, History}
@@ -29,7 +30,7 @@ use Rattle.rht_check.proofs.LinesRead.{coded_at-coded}
 
 -- ---- the table line
 
-both_hold : (read : Result TableLine Cause) → IfOk read IsSettledTable → IfOk read HasOneNumber → IfOk read IsSoundTable
+both_hold : (read : Result TableLine Cause) → IfOk read IsSettledTable → IfOk read HasForm → IfOk read IsSoundTable
 both_hold (Ok table) settled form = record { settled = settled; form = form }
 both_hold (Err cause) settled form = tt
 

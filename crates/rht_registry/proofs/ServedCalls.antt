@@ -137,23 +137,23 @@ module _ {M : Type 0} (mix : ℕ → ℕ → ℕ → ℕ) (t : Table M) (auto : 
     serves = ap (λ (b : Book). b.finished) new.book;
   }
 
-  module _ (items : List (ℕ × Call)) (i : ℕ) (default : ℕ × Call) (number : ℕ) (pass : Pass M) (endings : List Ending)
-      (within : i < length items) where
-    abbrev next : ℕ × Call
-    next = get_or items i default
+  -- the command at the place
+  module _ (items : List (ℕ × Call)) (i : ℕ) (next default : ℕ × Call) (here : next ≡ get_or items i default) (number : ℕ)
+      (pass : Pass M) (endings : List Ending) (within : i < length items) where
+    one_more : take (i + 1) items ≡ take i items ++ next ∷ []
+    one_more = take_more items i default within ∙ ap (λ command. take i items ++ command ∷ []) (sym here)
 
     pub served-own : next.0 ≡ number + 1
         → HasServedWorker mix t auto (take i items ++ (number + 1, next.1) ∷ []) number pass endings
         → HasServedWorker mix t auto (take (i + 1) items) number pass endings
     served-own own =
-        let more = take_more items i default within in
         subst (λ commands. HasServedWorker mix t auto commands number pass endings)
-        (sym (more ∙ ap (λ worker. take i items ++ (worker, next.1) ∷ []) own))
+        (sym (one_more ∙ ap (λ worker. take i items ++ (worker, next.1) ∷ []) own))
 
     pub served-other : next.0 ≢ number + 1 → HasServedWorker mix t auto (take i items) number pass endings
         → HasServedWorker mix t auto (take (i + 1) items) number pass endings
     served-other other served =
-        subst (λ commands. HasServedWorker mix t auto commands number pass endings) (sym (take_more items i default within))
+        subst (λ commands. HasServedWorker mix t auto commands number pass endings) (sym one_more)
         (HasServedWorker-other (take i items) number next pass endings other served)
 
   -- the worker's pass and replies under other names

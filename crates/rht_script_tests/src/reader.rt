@@ -417,6 +417,7 @@ fn reads_forms(rt: HostRuntime) -> Result<(), Fail> {
         let find = Call::Find {
             port: Port { net, number: 80 },
         };
+        assert!(rt; script.commands.len() == 1);
         assert_same(&rt, &script.commands[0].1, &find, text);
     }
     Ok(())

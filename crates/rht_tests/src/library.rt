@@ -15,19 +15,19 @@ use std::sync::Wait;
 use std::test::Fail;
 use std::thread::{Threads, join};
 
-/// What a thread does: it binds a port, asks who has it, gives it back, tidies, and binds it to another
-/// owner. The tidying may be `Pending`, since the other thread may be in a call.
-fn work<M: Mix, R: Wait>(rt: &R, table: &Table<M>, mut pass: Pass<M>, port: Port) -> Pass<M>
+/// What a thread does: it binds the port of this number, asks who has it, gives it back, tidies, and binds
+/// it to another owner. The tidying may be `Pending`, since the other thread may be in a call.
+fn work<M: Mix, R: Wait>(rt: &R, table: &Table<M>, mut pass: Pass<M>, number: u32) -> Pass<M>
     requires pass { IsPassOf M.mix_of table.now pass }
     requires idle { is_idle pass.local ≡ true }
     ensures pass { IsPassOf M.mix_of table.now result }
     ensures idle { is_idle result.local ≡ true }
 {
-    table.bind(rt, &mut pass, port, 1);
-    table.find(&mut pass, port);
-    table.release(rt, &mut pass, port, 1);
+    table.bind(rt, &mut pass, Port::plain(number), 1);
+    table.find(&mut pass, Port::plain(number));
+    table.release(rt, &mut pass, Port::plain(number), 1);
     table.tidy(&mut pass);
-    table.bind(rt, &mut pass, port, 2);
+    table.bind(rt, &mut pass, Port::plain(number), 2);
     pass
 }
 
@@ -45,8 +45,8 @@ fn both<M: Mix + Send + Sync, R: Threads + Wait + Sync>(
 {
     join(
         rt,
-        move || work(rt, table, first, Port::plain(5)),
-        move || work(rt, table, second, Port::plain(6)),
+        move || work(rt, table, first, 5),
+        move || work(rt, table, second, 6),
     )
 }
 

@@ -50,6 +50,7 @@ returns-clause-claim c =
       script = record {
         config = c.in_ok-table.table.config;
         auto = c.in_ok-table.table.auto;
+        form = c.in_ok-table.table.form;
         commands = c.in_ok-commands.commands.items;
         schedule = schedule;
       };

@@ -1,6 +1,5 @@
-use Rattle.std.proofs.Common.{◌≡◌, ◌+◌, ◌<◌, false, length, take, get_or, sym, subst, arith}
+use Rattle.std.proofs.Common.{◌≡◌, ℕ, ◌+◌, ◌<◌, false, length, take, sym, subst, arith}
 use Rattle.rht_words.specs.declared.config.Config.{Config}
-use Rattle.rht_model.specs.declared.history.Call.TheVariants.{Bind}
 use Rattle.rht_registry.proofs.ServedCalls.{new-below, served-kept, served-own, served-other, served-same}
 use Rattle.rht_registry.proofs.SoundCommands.{IsCommandFor, sound-commands, next-command}
 use Rattle.rht_registry.proofs.registry.work_of.Goals.{then-command-worker+in_ok-push, else-command-worker}
@@ -22,7 +21,8 @@ loop-command-preserved g c =
     let before = c.loop-command.invariant in
     let few = before.few in
     let within : i < length items = omega arith in
-    let here = get_or items i (0, Bind 0 0 false) in
+    let here = c.command-item.result in
+    let is = c.command-item.is in
     let pass = c.if-command-worker.pass in
     let replies = c.if-command-worker.replies in
     elim c.if-command-worker.branch [
@@ -38,7 +38,7 @@ loop-command-preserved g c =
           record {
             served =
                 served-same mix table auto (take (i + 1) items) number pass now replies all w.pass-is w.replies-is
-                (served-own mix table auto items i (0, Bind 0 0 false) number now all within own kept);
+                (served-own mix table auto items i here here is number now all within own kept);
             items = before.items;
             few = omega (arith, few, index_is);
           }
@@ -49,7 +49,7 @@ loop-command-preserved g c =
             served =
                 served-same mix table auto (take (i + 1) items) number pass c.loop-command.pass replies c.loop-command.replies w.pass-is
                 w.replies-is
-                (served-other mix table auto items i (0, Bind 0 0 false) number c.loop-command.pass c.loop-command.replies within
+                (served-other mix table auto items i here here is number c.loop-command.pass c.loop-command.replies within
                 (λ same. absurd (omega (arith, same, other))) before.served);
             items = before.items;
             few = omega (arith, few, index_is);

@@ -4,7 +4,6 @@ use Rattle.std.specs.Vec.{with_item}
 use Rattle.std.proofs.lemmas.List.{length-set}
 use Rattle.std.proofs.lemmas.List.Elements.{All-from_recursion}
 use Rattle.rht_model.specs.declared.history.Call.{Call}
-use Rattle.rht_model.specs.declared.history.Call.TheVariants.{Bind}
 use Rattle.rht_core.specs.Runs.{Core}
 use Rattle.rht_core.specs.Serving.{calls_of}
 use Rattle.rht_registry.specs.declared.replaying.player.Player.{Player}
@@ -36,7 +35,7 @@ returns-clause-taken g c =
     let caller = c.args.caller in
     let place = c.look-place.result in
     let looked = c.look-place.new.self in
-    let none : ℕ × Call = (0, Bind 0 0 false) in
+    let none : ℕ × Call = c.index-commands-place.result in
     let below : caller < length before.next.items = omega (arith, c.requires.can.places, c.requires.caller) in
     let within : place < length commands = c.if-place-commands.false in
     let own = head_is (λ (command : ℕ × Call). command.0 ≡ caller + 1) commands place none within c.look-place.ensures.here in
