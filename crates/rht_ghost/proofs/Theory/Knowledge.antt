@@ -14,9 +14,9 @@ use Rattle.rht_words.specs.declared.machine.Start.TheVariants as starts
 use Rattle.rht_nest.specs.Tables.{is_nested, table_pages, table_seed}
 use Rattle.rht_nest.specs.Place.{PlaceModel, nested_place, entered, is_deep}
 use Rattle.rht_ghost.proofs.Theory.Ghosts.{has_entries, Bucket, NodeHeld, Leaving, Middle, PageHeld, PageOf, SlotHeld, Live, Retiring, Retired, Back, slot_holder, Ghost, is_taken_by, IsSince, IsOver}
-use Rattle.rht_ghost.proofs.Theory.Wholes.{AreRetired, chain_of, key_of, place_at, word_index, hash_in, home, pages_of, MovesNone, moves_none, IsFurther, Whole, IsAt, AreThereFrom, there_behind}
+use Rattle.rht_ghost.proofs.Theory.Wholes.{AreRetired, chain_of, list_of, key_of, place_at, word_index, hash_in, home, pages_of, MovesNone, moves_none, IsFurther, Whole, IsAt, AreThereFrom, there_behind}
 use Rattle.rht_ghost.proofs.Theory.Passed.{NoKey, Passed}
-use Rattle.rht_ghost.proofs.Theory.Knowns.{knows_plain, Armed, KnownAim, NoAim, Onward, From, Beyond, KnownRehash, KnownPlace, Follows, Nears, Faces, InBucket, Bare, Aims, LeavesBehind, AtEntry, AtHome, AtNode, AtTail, Brings, Collected, CollectedTo, Copied, CopiedTo, LinkBehind, Differing, Differs, Empties, FirstLink, Found, HasBrought, HasKept, HasLoadedWord, HasMade, HasPages, HasTaken, InList, InSlot, IsAmong, IsCollected, IsCollectedTo, IsLinkBehind, IsLeading, IsLeadingTo, IsOtherOwner, IsOwnersNode, IsPromoting, Known, KnownBucket, KnownEntry, KnownList, KnownMaking, KnownNode, KnownSlot, KnownTable, KnownWork, Leads, LeadsTo, Listing, Locks, LocksTakenOut, MakesNothing, Matching, Member, Missed, NoWork, Nowhere, OnWay, Passes, Promotes, Replaces, Rooted, Shaped, Stands, StandsAt, StandsInList, Succeeds, TakenOut, TakesOut, Unlocked, Unlocks, Works, last_of, Asks, Compares, KnownGiving, Over, InRun, AtTop, AtLeaf, ClearsLeaf, ClearsTop, GivesBack, HasBack}
+use Rattle.rht_ghost.proofs.Theory.Knowns.{knows_plain, Armed, KnownAim, NoAim, Onward, From, Beyond, KnownRehash, KnownPlace, Follows, Nears, Faces, InBucket, Bare, Aims, LeavesBehind, AtEntry, AtHome, AtNode, AtTail, Brings, Collected, CollectedTo, Copied, CopiedTo, LinkBehind, Differing, Differs, Empties, FirstLink, Found, HasBrought, HasKept, HasLoadedWord, HasMade, HasPages, HasTaken, InList, InSlot, IsAmong, IsCollected, IsCollectedTo, IsLinkBehind, IsLeading, IsLeadingTo, IsOtherOwner, IsOwnersNode, IsPromoting, Known, KnownBucket, KnownEntry, KnownList, KnownMaking, KnownNode, KnownSlot, KnownTable, KnownWork, Leads, LeadsTo, Listing, Locks, LocksTakenOut, MakesNothing, Matching, Member, Missed, NoWork, Nowhere, OnWay, Passes, Promotes, Replaces, Rooted, Shaped, Stands, StandsAt, StandsInList, Succeeds, TakenOut, TakesOut, Unlocked, Unlocks, Works, last_of, list_link, Asks, Compares, KnownGiving, Over, InRun, AtTop, AtLeaf, ClearsLeaf, ClearsTop, GivesBack, HasBack}
 use Rattle.rht_ghost.proofs.Theory.Ways.{first_page, entries_in, IsNestedShape}
 
 -- the caller does the work, and each table before the current one that has a slot is retired, but for the one in this slot

@@ -10,8 +10,8 @@ use Rattle.rht_words.proofs.Members.{In-append_left, In-append_cases, in-middle}
 use Rattle.rht_ghost.proofs.Theory.Ghosts.{NodeHeld, Ghost, IsSince, is_taken_by, table_at, table_of_page}
 use Rattle.rht_ghost.proofs.Theory.Wholes.{chain_of, key_of, word_index, IsAt}
 use Rattle.rht_ghost.proofs.Theory.Passed.{NoKey, NoKey-same, home-from, at-from}
-use Rattle.rht_ghost.proofs.Theory.Knowns.{Armed, AtHome, AtNode, Collected, CollectedTo, CutsOut, Differing, Differs, FirstLink, Found, InList, InSlot, IsAmong, IsLeading, IsOwnersNode, KnownBucket, KnownList, KnownNode, KnownTable, Leads, LeadsTo, Listing, Locks, LocksTakenOut, Matching, Member, Missed, NoOwner, Nowhere, OnWay, Passes, Promotes, Replaces, Shaped, Stands, StandsInList, Succeeds, TakenOut, Unlocked, Unlocks, first_of_list, owners_of}
-use Rattle.rht_ghost.proofs.Theory.Knowledge.{ArmedFor, BucketMeans, HasLock, HasNode, HasTakenOut, HoldsLock, IsArmed, IsDiffering, IsFound, IsInList, IsMember, IsPassing, IsPlain, IsPlainList, IsReaching, IsShaped, IsStanding, ListMeans, NodeMeans, TableMeans, bucket_at}
+use Rattle.rht_ghost.proofs.Theory.Knowns.{Armed, AtHome, AtNode, Collected, CollectedTo, Copied, CopiedTo, LinkBehind, Differing, Differs, FirstLink, Found, InList, InSlot, IsAmong, IsLeading, IsOwnersNode, KnownBucket, KnownList, KnownNode, KnownTable, Leads, LeadsTo, Listing, Locks, LocksTakenOut, Matching, Member, Missed, NoOwner, Nowhere, OnWay, Passes, Promotes, Replaces, Shaped, Stands, StandsInList, Succeeds, TakenOut, Unlocked, Unlocks, first_of_list, owners_of}
+use Rattle.rht_ghost.proofs.Theory.Knowledge.{ArmedFor, BucketMeans, HasLock, HasNode, HasTakenOut, HoldsLock, IsArmed, IsDiffering, IsFound, IsInList, IsMember, IsPassing, IsPlain, IsPlainList, IsReaching, IsReplacing, IsShaped, IsStanding, ListMeans, NodeMeans, TableMeans, bucket_at}
 use Rattle.rht_ghost.proofs.Theory.WaysStay.{IsWayTo-from, IsRightBehind-from}
 use Rattle.rht_ghost.proofs.Theory.Reliance.{ChainsStay, MembersUsed, TablesStay, since-low, WordStays}
 
@@ -19,6 +19,11 @@ module _ (env : Env) (mix : ℕ → ℕ → ℕ → ℕ) where
   -- ---- what is known outlives a step that leaves what it speaks of
 
   module _ (c : ℕ) (M M' : Memory) (G G' : Ghost) where
+    -- the caller's nodes stay its own, with their words
+    abbrev pub KeepsOwn : Type 0
+    KeepsOwn = (node : ℕ) → HasNode env mix c G node
+        → HasNode env mix c G' node × ((word : NodeWord) → M' (Node node word) ≡ M (Node node word))
+
     -- of nodes: where the caller's stay its own, with their words
     module _ (mine : (node : ℕ) → HasNode env mix c G node → G'.node node ≡ NodeHeld c)
         (words : (node : ℕ) → HasNode env mix c G node → (word : NodeWord)
@@ -226,10 +231,13 @@ module _ (env : Env) (mix : ℕ → ℕ → ℕ → ℕ) where
           (owners_of-stay nodes (λ other i. same other (inr i)))
 
       -- of a list: where the owners of its nodes stay, and their links in chains
-      module _ (first : ℕ) (behind : List ℕ)
-          (owner_words : (node : ℕ) → In node (first ∷ behind)
-          → M' (Node node OwnerWord) ≡ M (Node node OwnerWord))
-          (links : (node : ℕ) → In node (first ∷ behind) → chain_of M' node ≡ chain_of M node) where
+      abbrev ListOwners : ℕ → List ℕ → Type 0
+      ListOwners first behind = (node : ℕ) → In node (first ∷ behind) → M' (Node node OwnerWord) ≡ M (Node node OwnerWord)
+
+      abbrev ListLinks : ℕ → List ℕ → Type 0
+      ListLinks first behind = (node : ℕ) → In node (first ∷ behind) → chain_of M' node ≡ chain_of M node
+
+      module _ (first : ℕ) (behind : List ℕ) (owner_words : ListOwners first behind) (links : ListLinks first behind) where
         none-stays : (node : ℕ) (before : Option ℕ) (owner : ℕ)
             → (is : StandsInList M (first ∷ behind) node before owner)
             → NoOwner M' owner is.among.front
@@ -237,7 +245,7 @@ module _ (env : Env) (mix : ℕ → ℕ → ℕ → ℕ) where
             (λ n i. owner_words n (subst (In n) (sym is.among.split)
             (In-append_left n is.among.front (node ∷ is.among.rear) i))) is.none
 
-        Stands-stay : (node : ℕ) (before : Option ℕ) (owner : ℕ)
+        abbrev Stands-stay : (node : ℕ) (before : Option ℕ) (owner : ℕ)
             → StandsInList M (first ∷ behind) node before owner
             → StandsInList M' (first ∷ behind) node before owner
         Stands-stay node before owner is = record { among = is.among; none = none-stays node before owner is }
@@ -248,7 +256,7 @@ module _ (env : Env) (mix : ℕ → ℕ → ℕ → ℕ) where
             ap owner_of (owner_words node (subst (In node) (sym among.split)
             (in-middle node among.front among.rear)))
 
-        Matching-stay : (node : ℕ) (before : Option ℕ) (owner : ℕ)
+        abbrev Matching-stay : (node : ℕ) (before : Option ℕ) (owner : ℕ)
             → IsOwnersNode M (first ∷ behind) node before owner
             → IsOwnersNode M' (first ∷ behind) node before owner
         Matching-stay node before owner is = record {
@@ -279,19 +287,9 @@ module _ (env : Env) (mix : ℕ → ℕ → ℕ → ℕ) where
           differs = λ e. is.differs (sym (owner-stays node is.before is.stands.among) ∙ e);
         }
         ListMeans-stay (Matching node before owner) plain is = Matching-stay node before owner is
-        ListMeans-stay (CutsOut node before link owner) plain is =
-            let stays = Matching-stay node (Some before) owner is.is in
-            record {
-              is = record {
-                stands = record {
-                  among = is.is.stands.among;
-                  none = none-stays node
-                      (Some before) owner is.is.stands;
-                };
-                owner_is = stays.owner_is;
-              };
-              link_is = is.link_is;
-            }
+        ListMeans-stay (LinkBehind node before link owner) plain is =
+            record { is = Matching-stay node before owner is.is; link_is = is.link_is }
+        ListMeans-stay (Copied node before own owner) plain is = absurd plain
         ListMeans-stay (Leads second owner) plain is = Leads-stay second owner is
         ListMeans-stay (LeadsTo second link owner) plain is =
             record { leads = Leads-stay second owner is.leads; link_is = links first (inl refl) ∙ is.link_is }
@@ -302,7 +300,8 @@ module _ (env : Env) (mix : ℕ → ℕ → ℕ → ℕ) where
         }
         ListMeans-stay (FirstLink link) plain is = links first (inl refl) ∙ is
         ListMeans-stay (Replaces node) plain is = absurd plain
-        ListMeans-stay (Succeeds node owner) plain is = absurd plain
+        ListMeans-stay (CopiedTo own link owner) plain is = absurd plain
+        ListMeans-stay (Succeeds own owner) plain is = absurd plain
         ListMeans-stay (Collected node owners) plain is = record {
           before = is.before;
           among = is.among;
@@ -324,6 +323,46 @@ module _ (env : Env) (mix : ℕ → ℕ → ℕ → ℕ) where
                 ]
               ]))));
         }
+
+        -- the same of what speaks of the caller's own node, where it has that still, with its words
+        module _ (own : KeepsOwn) where
+          Replaces-stay : (node : ℕ) → IsReplacing env mix c M G first node → IsReplacing env mix c M' G' first node
+          Replaces-stay node is =
+              let mine = own node is.has in
+              record {
+                has = mine.0;
+                alike = mine.1 ChainLink ∙ is.alike ∙ sym (links first (inl refl));
+              }
+
+          ListMeans-own : (known : KnownList) → ListMeans env mix c M G first behind known
+              → ListMeans env mix c M' G' first behind known
+          ListMeans-own (AtNode node before owner) is = ListMeans-stay (AtNode node before owner) tt is
+          ListMeans-own (Differing node owner) is = ListMeans-stay (Differing node owner) tt is
+          ListMeans-own (Matching node before owner) is = ListMeans-stay (Matching node before owner) tt is
+          ListMeans-own (LinkBehind node before link owner) is = ListMeans-stay (LinkBehind node before link owner) tt is
+          ListMeans-own (Copied node before copy owner) is =
+              let mine = own copy is.has in
+              record { is = Matching-stay node before owner is.is; has = mine.0; list_is = mine.1 ListLink ∙ is.list_is }
+          ListMeans-own (Leads second owner) is = ListMeans-stay (Leads second owner) tt is
+          ListMeans-own (LeadsTo second link owner) is = ListMeans-stay (LeadsTo second link owner) tt is
+          ListMeans-own (Promotes second owner) is = ListMeans-stay (Promotes second owner) tt is
+          ListMeans-own (FirstLink link) is = ListMeans-stay (FirstLink link) tt is
+          ListMeans-own (Replaces node) is = Replaces-stay node is
+          ListMeans-own (CopiedTo copy link owner) is =
+              let mine = own copy is.has in
+              record {
+                owner_is = ap owner_of (owner_words first (inl refl)) ∙ is.owner_is;
+                has = mine.0;
+                list_is = mine.1 ListLink ∙ is.list_is;
+                link_is = links first (inl refl) ∙ is.link_is;
+              }
+          ListMeans-own (Succeeds copy owner) is = record {
+            owner_is = ap owner_of (owner_words first (inl refl)) ∙ is.owner_is;
+            list_is = (own copy is.replaces.has).1 ListLink ∙ is.list_is;
+            replaces = Replaces-stay copy is.replaces;
+          }
+          ListMeans-own (Collected node owners) is = ListMeans-stay (Collected node owners) tt is
+          ListMeans-own (CollectedTo node owners) is = ListMeans-stay (CollectedTo node owners) tt is
 
       IsFound-stay : (place word key node : ℕ) (before : Option ℕ) → IsFound env mix c M G place word key node before
           → IsFound env mix c M' G' place word key node before
@@ -347,66 +386,29 @@ module _ (env : Env) (mix : ℕ → ℕ → ℕ → ℕ) where
           ∙ ap G.bound found.key_is
 
       list_links : (place word key first : ℕ) (before : Option ℕ) (behind : List ℕ)
-          → IsFound env mix c M G place word key first before
-          → G.bound key ≡ first ∷ behind → (node : ℕ) → In node (first ∷ behind)
-          → chain_of M' node ≡ chain_of M node
+          → IsFound env mix c M G place word key first before → G.bound key ≡ first ∷ behind → ListLinks first behind
       list_links place word key first before behind found bound node i =
           chains (word_index env mix place) first node found.standing.lock.holder
           (found_there place word key first before found)
           (rw found.key_is (rw bound i))
 
-      list_owners : (key first : ℕ) (behind : List ℕ) → G.bound key ≡ first ∷ behind → (node : ℕ)
-          → In node (first ∷ behind)
-          → M' (Node node OwnerWord) ≡ M (Node node OwnerWord)
+      list_owners : (key first : ℕ) (behind : List ℕ) → G.bound key ≡ first ∷ behind → ListOwners first behind
       list_owners key first behind bound node i = let is = members.bound key node (rw bound i) in owners
           node is.0 is.1
 
-      InList-stay : (place word key first : ℕ) (before : Option ℕ) (known : KnownList) → IsPlainList env mix known
+      -- what is known of the list stays so, where its owners and links do
+      InList-stay : (place word key first : ℕ) (before : Option ℕ) (known : KnownList)
+          → ((behind : List ℕ) → ListOwners first behind → ListLinks first behind → ListMeans env mix c M G first behind known
+          → ListMeans env mix c M' G' first behind known)
           → IsInList env mix c M G place word key first before known
           → IsInList env mix c M' G' place word key first before known
-      InList-stay place word key first before known plain means = record {
+      InList-stay place word key first before known stays means = record {
         found = IsFound-stay place word key first before means.found;
         behind = means.behind;
         bound_to = bound-stays place word key first before means.found ∙ means.bound_to;
-        means = ListMeans-stay first means.behind (list_owners key first means.behind means.bound_to)
-            (list_links place word key first before means.behind means.found means.bound_to) known plain
-            means.means;
+        means = stays means.behind (list_owners key first means.behind means.bound_to)
+            (list_links place word key first before means.behind means.found means.bound_to) means.means;
       }
-
-      -- the caller's own node leads on as the first one does, where it has the node still, with its link
-      Replaces-stay : (place word key first : ℕ) (before : Option ℕ) (node : ℕ)
-          → (HasNode env mix c G node → HasNode env mix c G' node × (chain_of M' node ≡ chain_of M node))
-          → IsInList env mix c M G place word key first before (Replaces node)
-          → IsInList env mix c M' G' place word key first before (Replaces node)
-      Replaces-stay place word key first before node own means =
-          let mine = own means.means.has in
-          record {
-            found = IsFound-stay place word key first before means.found;
-            behind = means.behind;
-            bound_to = bound-stays place word key first before means.found ∙ means.bound_to;
-            means = record {
-              has = mine.0;
-              alike = mine.1 ∙ means.means.alike
-                  ∙ sym (list_links place word key first before means.behind means.found means.bound_to
-                  first (inl refl));
-            };
-          }
-
-      -- and the first one keeps its owner, and is the only one still
-      Succeeds-stay : (place word key first : ℕ) (before : Option ℕ) (node owner : ℕ)
-          → (HasNode env mix c G node → HasNode env mix c G' node × (chain_of M' node ≡ chain_of M node))
-          → IsInList env mix c M G place word key first before (Succeeds node owner) → IsInList env mix c M' G' place word key first before (Succeeds node owner)
-      Succeeds-stay place word key first before node owner own means =
-          let leads = InList-stay place word key first before (Leads None owner) tt
-          (record { found = means.found; behind = means.behind; bound_to = means.bound_to; means = means.means.leads }) in
-          let replaces = Replaces-stay place word key first before node own
-          (record { found = means.found; behind = means.behind; bound_to = means.bound_to; means = means.means.replaces }) in
-          record {
-            found = leads.found;
-            behind = leads.behind;
-            bound_to = leads.bound_to;
-            means = record { leads = leads.means; replaces = replaces.means };
-          }
 
       TakenOut-stay : (node : ℕ) → HasTakenOut env mix c G node → HasTakenOut env mix c G' node
       TakenOut-stay node means = record { among = means.among; taken = taken node ∙ means.taken }
@@ -443,15 +445,14 @@ module _ (env : Env) (mix : ℕ → ℕ → ℕ → ℕ) where
             listed = means.listed;
             owner_is = ap owner_of (owners means.first is.0 is.1) ∙ means.owner_is;
           }
-      BucketMeans-stay (InList place word key first before known) plain means = InList-stay place word
-          key first before known plain means
+      BucketMeans-stay (InList place word key first before known) plain means = InList-stay place word key first before known
+          (λ behind owner_words links. ListMeans-stay first behind owner_words links known plain) means
       BucketMeans-stay (TakenOut node) plain means = TakenOut-stay node means
       BucketMeans-stay (LocksTakenOut place word node) plain means =
           record { lock = HoldsLock-stay place word means.lock; took = TakenOut-stay node means.took }
 
-      -- the same of what speaks of the caller's own node, where it has that still, with its link
-      pub BucketMeans-own : (known : KnownBucket)
-          → ((node : ℕ) → HasNode env mix c G node → HasNode env mix c G' node × (chain_of M' node ≡ chain_of M node))
+      -- the same of what speaks of the caller's own node, where it has that still, with its words
+      pub BucketMeans-own : (known : KnownBucket) → KeepsOwn
           → BucketMeans env mix c M G known → BucketMeans env mix c M' G' known
       BucketMeans-own Unlocked own means = tt
       BucketMeans-own (Unlocks place word) own means = BucketMeans-stay (Unlocks place word) tt means
@@ -468,25 +469,8 @@ module _ (env : Env) (mix : ℕ → ℕ → ℕ → ℕ) where
           (Member place word key node) tt means
       BucketMeans-own (Listing place word key node owner) own means = BucketMeans-stay
           (Listing place word key node owner) tt means
-      BucketMeans-own (InList place word key first before known) own means = go known means
-        where
-          go : (known : KnownList) → IsInList env mix c M G place word key first before known
-              → IsInList env mix c M' G' place word key first before known
-          go (AtNode node b owner) m = InList-stay place word key first before (AtNode node b owner) tt m
-          go (Differing node owner) m = InList-stay place word key first before (Differing node owner) tt m
-          go (Matching node b owner) m = InList-stay place word key first before (Matching node b owner) tt m
-          go (CutsOut node b link owner) m = InList-stay place word key first before
-              (CutsOut node b link owner) tt m
-          go (Leads second owner) m = InList-stay place word key first before (Leads second owner) tt m
-          go (LeadsTo second link owner) m = InList-stay place word key first before
-              (LeadsTo second link owner) tt m
-          go (Promotes second owner) m = InList-stay place word key first before (Promotes second owner) tt m
-          go (FirstLink link) m = InList-stay place word key first before (FirstLink link) tt m
-          go (Replaces node) m = Replaces-stay place word key first before node (own node) m
-          go (Succeeds node owner) m = Succeeds-stay place word key first before node owner (own node) m
-          go (Collected node owners) m = InList-stay place word key first before (Collected node owners) tt m
-          go (CollectedTo node owners) m = InList-stay place word key first before
-              (CollectedTo node owners) tt m
+      BucketMeans-own (InList place word key first before known) own means = InList-stay place word key first before known
+          (λ behind owner_words links. ListMeans-own first behind owner_words links own known) means
       BucketMeans-own (TakenOut node) own means = BucketMeans-stay (TakenOut node) tt means
       BucketMeans-own (LocksTakenOut place word node) own means = BucketMeans-stay
           (LocksTakenOut place word node) tt means
