@@ -58,5 +58,5 @@ module _ (env : Env) (mix : ℕ → ℕ → ℕ → ℕ) (c : ℕ) (h : Holding)
       (λ n l used. write.others (Node n KeyWord) l (λ e. cc))
       (λ n l used. write.others (Node n OwnerWord) l (λ e. cc)) (λ n. refl) stay
       (λ port τ j is. is.unbound) bucket
-      (λ n has. (record { mine = has.mine; among = has.among }, λ w. write.others (Node n w) has.among (λ e. cc)))
+      (λ w each n has. (record { mine = has.mine; among = has.among }, write.others (Node n w) has.among (λ e. cc)))
       knows.means.bucket))

@@ -409,7 +409,7 @@ module _ (env : Env) (mix : ℕ → ℕ → ℕ → ℕ) where
       table = table;
       bucket = BucketMeans-own env mix c M M' G G' (members_used env mix M G whole) rely.locks rely.lists rely.chains rely.keys
           rely.owners rely.taken rely.tables rely.unbound known.bucket
-          (λ node has. (record { mine = rely.nodes node has; among = has.among }, rely.words node has)) means.bucket;
+          (λ word all node has. (record { mine = rely.nodes node has; among = has.among }, rely.words node has word)) means.bucket;
       making = MakingMeans-stay c M M' G G' rely.holdings known.making means.making;
       work = WorkMeans-stay c M M' G G' whole
           (record {

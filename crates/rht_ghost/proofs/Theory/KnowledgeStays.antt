@@ -11,7 +11,7 @@ use Rattle.rht_ghost.proofs.Theory.Ghosts.{NodeHeld, Ghost, IsSince, is_taken_by
 use Rattle.rht_ghost.proofs.Theory.Wholes.{chain_of, key_of, word_index, IsAt}
 use Rattle.rht_ghost.proofs.Theory.Passed.{NoKey, NoKey-same, home-from, at-from}
 use Rattle.rht_ghost.proofs.Theory.Knowns.{Armed, AtHome, AtNode, Collected, CollectedTo, Copied, CopiedTo, LinkBehind, Differing, Differs, FirstLink, Found, InList, InSlot, IsAmong, IsLeading, IsOwnersNode, KnownBucket, KnownList, KnownNode, KnownTable, Leads, LeadsTo, Listing, Locks, LocksTakenOut, Matching, Member, Missed, NoOwner, Nowhere, OnWay, Passes, Promotes, Replaces, Shaped, Stands, StandsInList, Succeeds, TakenOut, Unlocked, Unlocks, first_of_list, owners_of}
-use Rattle.rht_ghost.proofs.Theory.Knowledge.{ArmedFor, BucketMeans, HasLock, HasNode, HasTakenOut, HoldsLock, IsArmed, IsDiffering, IsFound, IsInList, IsMember, IsPassing, IsPlain, IsPlainList, IsReaching, IsReplacing, IsShaped, IsStanding, ListMeans, NodeMeans, TableMeans, bucket_at}
+use Rattle.rht_ghost.proofs.Theory.Knowledge.{ArmedFor, BucketMeans, HasLock, HasNode, HasTakenOut, HoldsLock, IsArmed, IsDiffering, IsFound, IsMember, IsPassing, IsPlain, SpeaksOf, SpeaksOfList, speaks_of, IsReaching, IsReplacing, IsShaped, IsStanding, ListMeans, NodeMeans, TableMeans, bucket_at}
 use Rattle.rht_ghost.proofs.Theory.WaysStay.{IsWayTo-from, IsRightBehind-from}
 use Rattle.rht_ghost.proofs.Theory.Reliance.{ChainsStay, MembersUsed, TablesStay, since-low, WordStays}
 
@@ -19,10 +19,10 @@ module _ (env : Env) (mix : ℕ → ℕ → ℕ → ℕ) where
   -- ---- what is known outlives a step that leaves what it speaks of
 
   module _ (c : ℕ) (M M' : Memory) (G G' : Ghost) where
-    -- the caller's nodes stay its own, with their words
-    abbrev pub KeepsOwn : Type 0
-    KeepsOwn = (node : ℕ) → HasNode env mix c G node
-        → HasNode env mix c G' node × ((word : NodeWord) → M' (Node node word) ≡ M (Node node word))
+    -- the caller's nodes stay its own, with such of their words, where there are any such
+    abbrev pub KeepsOwn : (NodeWord → Type 0) → Type 0
+    KeepsOwn Such = (word : NodeWord) → Such word → (node : ℕ) → HasNode env mix c G node
+        → HasNode env mix c G' node × (M' (Node node word) ≡ M (Node node word))
 
     -- of nodes: where the caller's stay its own, with their words
     module _ (mine : (node : ℕ) → HasNode env mix c G node → G'.node node ≡ NodeHeld c)
@@ -264,105 +264,84 @@ module _ (env : Env) (mix : ℕ → ℕ → ℕ → ℕ) where
           owner_is = owner-stays node before is.stands.among ∙ is.owner_is;
         }
 
+        first-owner : owner_of (M' (Node first OwnerWord)) ≡ owner_of (M (Node first OwnerWord))
+        first-owner = ap owner_of (owner_words first (inl refl))
+
         Leads-stay : (second : Option ℕ) (owner : ℕ) → IsLeading M first behind second owner
             → IsLeading M' first behind second owner
-        Leads-stay second owner is =
-            record {
-              owner_is = ap owner_of (owner_words first (inl refl))
-                  ∙ is.owner_is;
-              second_is = is.second_is;
-            }
+        Leads-stay second owner is = record { owner_is = first-owner ∙ is.owner_is; second_is = is.second_is }
 
         -- the second node is one of the list
         second_in : (second : ℕ) (rest : List ℕ) → Some second ≡ first_of_list rest → In second rest
         second_in second [] is = absurd (cc)
         second_in second (node ∷ rest) is = inl (let same : second ≡ node = cc in same)
 
-        ListMeans-stay : (known : KnownList) → IsPlainList env mix known → ListMeans env mix c M G first behind known
-            → ListMeans env mix c M' G' first behind known
-        ListMeans-stay (AtNode node before owner) plain is = Stands-stay node before owner is
-        ListMeans-stay (Differing node owner) plain is = record {
-          before = is.before;
-          stands = Stands-stay node is.before owner is.stands;
-          differs = λ e. is.differs (sym (owner-stays node is.before is.stands.among) ∙ e);
-        }
-        ListMeans-stay (Matching node before owner) plain is = Matching-stay node before owner is
-        ListMeans-stay (LinkBehind node before link owner) plain is =
-            record { is = Matching-stay node before owner is.is; link_is = is.link_is }
-        ListMeans-stay (Copied node before own owner) plain is = absurd plain
-        ListMeans-stay (Leads second owner) plain is = Leads-stay second owner is
-        ListMeans-stay (LeadsTo second link owner) plain is =
-            record { leads = Leads-stay second owner is.leads; link_is = links first (inl refl) ∙ is.link_is }
-        ListMeans-stay (Promotes second owner) plain is = record {
-          leads = Leads-stay (Some second) owner is.leads;
-          alike = links second (inr (second_in second behind is.leads.second_is)) ∙ is.alike
-              ∙ sym (links first (inl refl));
-        }
-        ListMeans-stay (FirstLink link) plain is = links first (inl refl) ∙ is
-        ListMeans-stay (Replaces node) plain is = absurd plain
-        ListMeans-stay (CopiedTo own link owner) plain is = absurd plain
-        ListMeans-stay (Succeeds own owner) plain is = absurd plain
-        ListMeans-stay (Collected node owners) plain is = record {
-          before = is.before;
-          among = is.among;
-          owners_are = is.owners_are ∙ sym (owners_of-stay is.among.front
-              (λ n i. owner_words n (subst (In n) (sym is.among.split)
-              (In-append_left n is.among.front (node ∷ is.among.rear) i))));
-        }
-        ListMeans-stay (CollectedTo node owners) plain is = record {
-          before = is.before;
-          among = is.among;
-          owners_are = is.owners_are ∙ sym (owners_of-stay (is.among.front ++ node ∷ []) (λ n i.
-              owner_words n (subst (In n) (sym is.among.split)
-              (elim (In-append_cases n is.among.front (node ∷ []) i) [
-                | inl l ↦ In-append_left n is.among.front (node ∷ is.among.rear) l
-                | inr r ↦ elim r [
-                  | inl e ↦ rw e (in-middle node is.among.front is.among.rear)
-                  | inr
-                      none ↦ absurd none
-                ]
-              ]))));
-        }
+        -- and where such words of the caller's own node stay
+        module _ (Such : NodeWord → Type 0) (own : KeepsOwn Such) where
+          Replaces-stay : Such ChainLink → (node : ℕ) → IsReplacing env mix c M G first node
+              → IsReplacing env mix c M' G' first node
+          Replaces-stay speaks node is =
+              let mine = own ChainLink speaks node is.has in
+              record { has = mine.0; alike = mine.1 ∙ is.alike ∙ sym (links first (inl refl)) }
 
-        -- the same of what speaks of the caller's own node, where it has that still, with its words
-        module _ (own : KeepsOwn) where
-          Replaces-stay : (node : ℕ) → IsReplacing env mix c M G first node → IsReplacing env mix c M' G' first node
-          Replaces-stay node is =
-              let mine = own node is.has in
-              record {
-                has = mine.0;
-                alike = mine.1 ChainLink ∙ is.alike ∙ sym (links first (inl refl));
-              }
-
-          ListMeans-own : (known : KnownList) → ListMeans env mix c M G first behind known
+          ListMeans-stay : (known : KnownList) → SpeaksOfList env mix Such known → ListMeans env mix c M G first behind known
               → ListMeans env mix c M' G' first behind known
-          ListMeans-own (AtNode node before owner) is = ListMeans-stay (AtNode node before owner) tt is
-          ListMeans-own (Differing node owner) is = ListMeans-stay (Differing node owner) tt is
-          ListMeans-own (Matching node before owner) is = ListMeans-stay (Matching node before owner) tt is
-          ListMeans-own (LinkBehind node before link owner) is = ListMeans-stay (LinkBehind node before link owner) tt is
-          ListMeans-own (Copied node before copy owner) is =
-              let mine = own copy is.has in
-              record { is = Matching-stay node before owner is.is; has = mine.0; list_is = mine.1 ListLink ∙ is.list_is }
-          ListMeans-own (Leads second owner) is = ListMeans-stay (Leads second owner) tt is
-          ListMeans-own (LeadsTo second link owner) is = ListMeans-stay (LeadsTo second link owner) tt is
-          ListMeans-own (Promotes second owner) is = ListMeans-stay (Promotes second owner) tt is
-          ListMeans-own (FirstLink link) is = ListMeans-stay (FirstLink link) tt is
-          ListMeans-own (Replaces node) is = Replaces-stay node is
-          ListMeans-own (CopiedTo copy link owner) is =
-              let mine = own copy is.has in
+          ListMeans-stay (AtNode node before owner) speaks is = Stands-stay node before owner is
+          ListMeans-stay (Differing node owner) speaks is = record {
+            before = is.before;
+            stands = Stands-stay node is.before owner is.stands;
+            differs = λ e. is.differs (sym (owner-stays node is.before is.stands.among) ∙ e);
+          }
+          ListMeans-stay (Matching node before owner) speaks is = Matching-stay node before owner is
+          ListMeans-stay (LinkBehind node before link owner) speaks is =
+              record { is = Matching-stay node before owner is.is; link_is = is.link_is }
+          ListMeans-stay (Copied node before copy owner) speaks is =
+              let mine = own ListLink speaks copy is.has in
+              record { is = Matching-stay node before owner is.is; has = mine.0; list_is = mine.1 ∙ is.list_is }
+          ListMeans-stay (Leads second owner) speaks is = Leads-stay second owner is
+          ListMeans-stay (LeadsTo second link owner) speaks is =
+              record { leads = Leads-stay second owner is.leads; link_is = links first (inl refl) ∙ is.link_is }
+          ListMeans-stay (Promotes second owner) speaks is = record {
+            leads = Leads-stay (Some second) owner is.leads;
+            alike = links second (inr (second_in second behind is.leads.second_is)) ∙ is.alike
+                ∙ sym (links first (inl refl));
+          }
+          ListMeans-stay (FirstLink link) speaks is = links first (inl refl) ∙ is
+          ListMeans-stay (Replaces node) speaks is = Replaces-stay speaks node is
+          ListMeans-stay (CopiedTo copy link owner) speaks is =
+              let mine = own ListLink speaks copy is.has in
               record {
-                owner_is = ap owner_of (owner_words first (inl refl)) ∙ is.owner_is;
+                owner_is = first-owner ∙ is.owner_is;
                 has = mine.0;
-                list_is = mine.1 ListLink ∙ is.list_is;
+                list_is = mine.1 ∙ is.list_is;
                 link_is = links first (inl refl) ∙ is.link_is;
               }
-          ListMeans-own (Succeeds copy owner) is = record {
-            owner_is = ap owner_of (owner_words first (inl refl)) ∙ is.owner_is;
-            list_is = (own copy is.replaces.has).1 ListLink ∙ is.list_is;
-            replaces = Replaces-stay copy is.replaces;
+          ListMeans-stay (Succeeds copy owner) speaks is = record {
+            owner_is = first-owner ∙ is.owner_is;
+            list_is = (own ListLink speaks.1 copy is.replaces.has).1 ∙ is.list_is;
+            replaces = Replaces-stay speaks.0 copy is.replaces;
           }
-          ListMeans-own (Collected node owners) is = ListMeans-stay (Collected node owners) tt is
-          ListMeans-own (CollectedTo node owners) is = ListMeans-stay (CollectedTo node owners) tt is
+          ListMeans-stay (Collected node owners) speaks is = record {
+            before = is.before;
+            among = is.among;
+            owners_are = is.owners_are ∙ sym (owners_of-stay is.among.front
+                (λ n i. owner_words n (subst (In n) (sym is.among.split)
+                (In-append_left n is.among.front (node ∷ is.among.rear) i))));
+          }
+          ListMeans-stay (CollectedTo node owners) speaks is = record {
+            before = is.before;
+            among = is.among;
+            owners_are = is.owners_are ∙ sym (owners_of-stay (is.among.front ++ node ∷ []) (λ n i.
+                owner_words n (subst (In n) (sym is.among.split)
+                (elim (In-append_cases n is.among.front (node ∷ []) i) [
+                  | inl l ↦ In-append_left n is.among.front (node ∷ is.among.rear) l
+                  | inr r ↦ elim r [
+                    | inl e ↦ rw e (in-middle node is.among.front is.among.rear)
+                    | inr
+                        none ↦ absurd none
+                  ]
+                ]))));
+          }
 
       IsFound-stay : (place word key node : ℕ) (before : Option ℕ) → IsFound env mix c M G place word key node before
           → IsFound env mix c M' G' place word key node before
@@ -396,42 +375,29 @@ module _ (env : Env) (mix : ℕ → ℕ → ℕ → ℕ) where
       list_owners key first behind bound node i = let is = members.bound key node (rw bound i) in owners
           node is.0 is.1
 
-      -- what is known of the list stays so, where its owners and links do
-      InList-stay : (place word key first : ℕ) (before : Option ℕ) (known : KnownList)
-          → ((behind : List ℕ) → ListOwners first behind → ListLinks first behind → ListMeans env mix c M G first behind known
-          → ListMeans env mix c M' G' first behind known)
-          → IsInList env mix c M G place word key first before known
-          → IsInList env mix c M' G' place word key first before known
-      InList-stay place word key first before known stays means = record {
-        found = IsFound-stay place word key first before means.found;
-        behind = means.behind;
-        bound_to = bound-stays place word key first before means.found ∙ means.bound_to;
-        means = stays means.behind (list_owners key first means.behind means.bound_to)
-            (list_links place word key first before means.behind means.found means.bound_to) means.means;
-      }
-
       TakenOut-stay : (node : ℕ) → HasTakenOut env mix c G node → HasTakenOut env mix c G' node
       TakenOut-stay node means = record { among = means.among; taken = taken node ∙ means.taken }
 
-      pub BucketMeans-stay : (known : KnownBucket) → IsPlain env mix known → BucketMeans env mix c M G known
-          → BucketMeans env mix c M' G' known
-      BucketMeans-stay Unlocked plain means = tt
-      BucketMeans-stay (Unlocks place word) plain means = HasLock-stay place word means
-      BucketMeans-stay (Armed place word port) plain means = IsArmed-stay place word port means
-      BucketMeans-stay (Locks place word) plain means = HoldsLock-stay place word means
-      BucketMeans-stay (Stands place word key node before count) plain means = IsReaching-stay place word key
+      -- where such words of the caller's own node stay
+      pub BucketMeans-such : (Such : NodeWord → Type 0) → KeepsOwn Such → (known : KnownBucket) → SpeaksOf env mix Such known
+          → BucketMeans env mix c M G known → BucketMeans env mix c M' G' known
+      BucketMeans-such Such own Unlocked speaks means = tt
+      BucketMeans-such Such own (Unlocks place word) speaks means = HasLock-stay place word means
+      BucketMeans-such Such own (Armed place word port) speaks means = IsArmed-stay place word port means
+      BucketMeans-such Such own (Locks place word) speaks means = HoldsLock-stay place word means
+      BucketMeans-such Such own (Stands place word key node before count) speaks means = IsReaching-stay place word key
           node before count means
-      BucketMeans-stay (Differs place word key node before count) plain means = IsDiffering-stay place word key
+      BucketMeans-such Such own (Differs place word key node before count) speaks means = IsDiffering-stay place word key
           node before count means
-      BucketMeans-stay (Missed place word key) plain means = record {
+      BucketMeans-such Such own (Missed place word key) speaks means = record {
         lock = HoldsLock-stay place word means.lock;
         none = rw (nodes-stay place word means.lock)
             (NoKey-stay key (word_index env mix place) (bucket_at env mix G place).nodes (λ node i. i) means.none);
       }
-      BucketMeans-stay (Found place word key node before) plain means = IsFound-stay place word key node
+      BucketMeans-such Such own (Found place word key node before) speaks means = IsFound-stay place word key node
           before means
-      BucketMeans-stay (Member place word key node) plain means = IsMember-stay place word key node means
-      BucketMeans-stay (Listing place word key node owner) plain means =
+      BucketMeans-such Such own (Member place word key node) speaks means = IsMember-stay place word key node means
+      BucketMeans-such Such own (Listing place word key node owner) speaks means =
           let j = word_index env mix place in
           let is = members.member j means.first means.member.there in
           record {
@@ -445,32 +411,23 @@ module _ (env : Env) (mix : ℕ → ℕ → ℕ → ℕ) where
             listed = means.listed;
             owner_is = ap owner_of (owners means.first is.0 is.1) ∙ means.owner_is;
           }
-      BucketMeans-stay (InList place word key first before known) plain means = InList-stay place word key first before known
-          (λ behind owner_words links. ListMeans-stay first behind owner_words links known plain) means
-      BucketMeans-stay (TakenOut node) plain means = TakenOut-stay node means
-      BucketMeans-stay (LocksTakenOut place word node) plain means =
+      BucketMeans-such Such own (InList place word key first before known) speaks means = record {
+        found = IsFound-stay place word key first before means.found;
+        behind = means.behind;
+        bound_to = bound-stays place word key first before means.found ∙ means.bound_to;
+        means = ListMeans-stay first means.behind (list_owners key first means.behind means.bound_to)
+            (list_links place word key first before means.behind means.found means.bound_to) Such own known speaks means.means;
+      }
+      BucketMeans-such Such own (TakenOut node) speaks means = TakenOut-stay node means
+      BucketMeans-such Such own (LocksTakenOut place word node) speaks means =
           record { lock = HoldsLock-stay place word means.lock; took = TakenOut-stay node means.took }
 
-      -- the same of what speaks of the caller's own node, where it has that still, with its words
-      pub BucketMeans-own : (known : KnownBucket) → KeepsOwn
-          → BucketMeans env mix c M G known → BucketMeans env mix c M' G' known
-      BucketMeans-own Unlocked own means = tt
-      BucketMeans-own (Unlocks place word) own means = BucketMeans-stay (Unlocks place word) tt means
-      BucketMeans-own (Armed place word port) own means = BucketMeans-stay (Armed place word port) tt means
-      BucketMeans-own (Locks place word) own means = BucketMeans-stay (Locks place word) tt means
-      BucketMeans-own (Stands place word key node before count) own means = BucketMeans-stay
-          (Stands place word key node before count) tt means
-      BucketMeans-own (Differs place word key node before count) own means = BucketMeans-stay
-          (Differs place word key node before count) tt means
-      BucketMeans-own (Missed place word key) own means = BucketMeans-stay (Missed place word key) tt means
-      BucketMeans-own (Found place word key node before) own means = BucketMeans-stay
-          (Found place word key node before) tt means
-      BucketMeans-own (Member place word key node) own means = BucketMeans-stay
-          (Member place word key node) tt means
-      BucketMeans-own (Listing place word key node owner) own means = BucketMeans-stay
-          (Listing place word key node owner) tt means
-      BucketMeans-own (InList place word key first before known) own means = InList-stay place word key first before known
-          (λ behind owner_words links. ListMeans-own first behind owner_words links own known) means
-      BucketMeans-own (TakenOut node) own means = BucketMeans-stay (TakenOut node) tt means
-      BucketMeans-own (LocksTakenOut place word node) own means = BucketMeans-stay
-          (LocksTakenOut place word node) tt means
+      -- of what doesn't speak of the caller's own node, and of whatever it is, where that is still its own, with its words
+      pub BucketMeans-stay : (known : KnownBucket) → IsPlain env mix known → BucketMeans env mix c M G known
+          → BucketMeans env mix c M' G' known
+      BucketMeans-stay known plain means = BucketMeans-such (λ word. ⊥) (λ word none. absurd none) known plain means
+
+      pub BucketMeans-own : (known : KnownBucket) → KeepsOwn (λ word. Unit {0}) → BucketMeans env mix c M G known
+          → BucketMeans env mix c M' G' known
+      BucketMeans-own known own means =
+          BucketMeans-such (λ word. Unit {0}) own known (speaks_of env mix (λ word. Unit {0}) (λ word. tt) known) means
