@@ -38,7 +38,7 @@ module _ (env : Env) (mix : ℕ → ℕ → ℕ → ℕ) (d port j m q p : ℕ) 
     pub moves_none : MovesNone env mix G d
     pub not_out : (i : ℕ) → (G.bucket i).out ≢ Some m
 
-  -- the one goes to the caller, these come into its place, and another one gets an owner as well
+  -- the node goes to the caller, these come into its place, and another one gets an owner as well
   abbrev pub relisting : List ℕ → ℕ → Owner → Change
   relisting new other owner = record {
     port = port;
@@ -52,8 +52,8 @@ module _ (env : Env) (mix : ℕ → ℕ → ℕ → ℕ) (d port j m q p : ℕ) 
     raised = G.raised d;
   }
 
-  -- From the link that is stored lie those that come, and then the others. Only a node of the caller's comes, which is behind the first one
-  -- from then on.
+  -- From the link that is stored on lie those that come, and then the ones that were behind the node. None comes but a node of the caller's
+  -- own, which is behind the first one from then on.
   pub record CanRelist (new : List ℕ) (other : ℕ) (owner : Owner) (link : ℕ) : Type 0 where
     pub rest : IsSegment (list_of M) link (new ++ vs) 0
     pub distinct : IsDistinct (m ∷ (us ++ (new ++ vs)))
@@ -80,13 +80,13 @@ module _ (env : Env) (mix : ℕ → ℕ → ℕ → ℕ) (d port j m q p : ℕ) 
     pub was_behind : G.node q ≡ Behind port
     was_behind = is_behind q (in-middle q us vs)
 
-    -- without it the list has no node twice
-    pub others_distinct : IsDistinct (m ∷ (us ++ vs))
-    others_distinct = IsDistinct-without (m ∷ us) q vs to.distinct
-
-    -- and from its link on lie those behind it
+    -- from its link on lie those behind it
     pub list_behind : IsSegment (list_of M) (list_of M q) vs 0
     list_behind = (IsSegment-cut (list_of M) us q vs (list_of M m) 0 to.list).1
+
+    -- none of the others lies in the list twice
+    pub others_distinct : IsDistinct (m ∷ (us ++ vs))
+    others_distinct = IsDistinct-without (m ∷ us) q vs to.distinct
 
     -- each of the others is the first one, or is behind it
     others_so : (P : Owner → Type 0) → P (First j) → P (Behind port) → (n : ℕ) → In n (m ∷ (us ++ vs)) → P (G.node n)
