@@ -174,7 +174,7 @@ module _ (env : Env) (mix : ℕ → ℕ → ℕ → ℕ) (c : ℕ) (h : Holding)
           list = write.same;
         }
 
-    abbrev FillStep : KnownNode → NodeWord → ℕ → Type 0
+    abbrev pub FillStep : KnownNode → NodeWord → ℕ → Type 0
     FillStep known w value =
         SilentStep env mix c words G (Store (place_of env.geometry (Node known.node w)) value)
         (holding (Some known.node)) (holding (Some known.node))
