@@ -19,7 +19,6 @@ use Rattle.rht_model.specs.Endings.{Ending}
 use Rattle.rht_model.specs.declared.history.Call.{Call}
 use Rattle.rht_model.specs.declared.history.Call.TheVariants.{Bind, Release}
 use Rattle.rht_release.specs.Seek.{seek_plan_at}
-use Rattle.rht_release.specs.declared.release.ReleaseAt.TheVariants.{Seeking}
 use Rattle.rht_core.specs.declared.event.Event.{Event}
 use Rattle.rht_core.specs.Jobs.{Job, binds, releases, job_of, call_of, job_after, held_of}
 use Rattle.rht_core.specs.Runs.{World, IsAdmitted, local_of, run_of}
