@@ -32,7 +32,7 @@ use Rattle.rht_move.specs.declared.work.WorkAt.TheVariants as work_at
 use Rattle.rht_model.specs.Endings.{Ending, ending_in, plain_ending}
 use Rattle.rht_model.specs.declared.finished.Finished.{Finished}
 use Rattle.rht_model.specs.declared.history.Call.{Call}
-use Rattle.rht_model.specs.declared.history.Call.TheVariants.{Bind, Rebind, Walk, Work, Tidy}
+use Rattle.rht_model.specs.declared.history.Call.TheVariants.{Bind, Walk, Work, Tidy}
 use Rattle.rht_core.specs.declared.event.Event.{Event}
 use Rattle.rht_core.specs.declared.event.Event.TheVariants.{Enroll, Begin, Step}
 use Rattle.rht_core.specs.FewPorts.{IsNoTableMade, IsCallTaken, StaysWithFirst, FewPorts}
@@ -257,7 +257,6 @@ module _ (M : Type 0) (mix : ℕ → ℕ → ℕ → ℕ) (env : Env) (roomy : I
     first_walk-calm (Some cursor) = tt
 
     first-calm : (call : Call) (batch : Option BatchModel) → IfSome (first_job env batch call) (CalmJob env)
-    first-calm (Rebind port owner new) batch = tt
     first-calm (Walk from limit) batch = first_walk-calm from
     first-calm Tidy batch = first_tidy-so (CalmJob env) batch (λ own. tt)
     first-calm _ batch = tt

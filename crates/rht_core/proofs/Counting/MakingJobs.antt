@@ -6,7 +6,7 @@ use Rattle.rht_words.specs.declared.env.Env.{Env}
 use Rattle.rht_words.specs.declared.machine.Next.{Next}
 use Rattle.rht_words.specs.declared.machine.Next.TheVariants.{Go, Done}
 use Rattle.rht_model.specs.declared.history.Call.{Call}
-use Rattle.rht_model.specs.declared.history.Call.TheVariants.{Rebind, Tidy}
+use Rattle.rht_model.specs.declared.history.Call.TheVariants.{Tidy}
 use Rattle.rht_model.specs.Endings.{Ending}
 use Rattle.rht_nest.specs.Make.{MakeModel}
 use Rattle.rht_grace.specs.Batch.{BatchModel}
@@ -55,7 +55,6 @@ module _ (Full : ℕ → Type 0) (Makes : MakeModel → Type 0) (Has : ℕ → �
   -- ---- the first job of a call
 
   first-makes : (env : Env) (call : Call) (batch : Option BatchModel) → IfSome (first_job env batch call) JobMakes
-  first-makes env (Rebind port owner new) batch = tt
   first-makes env Tidy batch = first_tidy-so JobMakes batch (λ own. tt)
   first-makes env _ batch = tt
 

@@ -26,7 +26,7 @@ use Rattle.rht_words.proofs.OpeningLaws.{opens_flat}
 use Rattle.rht_model.specs.Endings.{Ending, ended_with, plain_ending}
 use Rattle.rht_model.specs.declared.finished.Finished.{Finished}
 use Rattle.rht_model.specs.declared.history.Call.{Call}
-use Rattle.rht_model.specs.declared.history.Call.TheVariants.{Rebind, Tidy}
+use Rattle.rht_model.specs.declared.history.Call.TheVariants.{Tidy}
 use Rattle.rht_model.specs.declared.history.Reply.{Reply}
 use Rattle.rht_bind.specs.Bind.{after_at as bind_after_at}
 use Rattle.rht_nest.specs.Tables.{is_nested}
@@ -120,7 +120,6 @@ module _ (env : Env) where
     other-one _ other = tt
 
     first-one : (call : Call) (batch : Option BatchModel) → IfSome (first_job env batch call) OneJob
-    first-one (Rebind port owner new) batch = tt
     first-one Tidy batch = first_tidy-so OneJob batch (λ own. tt)
     first-one _ batch = tt
 

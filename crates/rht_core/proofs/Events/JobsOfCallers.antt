@@ -146,7 +146,6 @@ abbrev HoldsNothing : Job → Type 0
 HoldsNothing job = held_of job ≡ held.holds_nothing
 
 first_job-holds : (env : Env) (call : Call) (batch : Option BatchModel) → IfSome (first_job env batch call) HoldsNothing
-first_job-holds env (Rebind port owner new) batch = refl
 first_job-holds env Tidy batch = first_tidy-so HoldsNothing batch (λ own. refl)
 first_job-holds env _ batch = refl
 

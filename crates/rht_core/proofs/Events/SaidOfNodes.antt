@@ -246,7 +246,6 @@ longer env (Some batch) (Some node) is =
 
 -- a call says nothing of a node at its beginning
 first_says : (env : Env) (call : Call) (batch : Option BatchModel) → IfSome (first_job env batch call) SaysTaken
-first_says env (Rebind port owner new) batch = tt
 first_says env Tidy batch = first_tidy-so SaysTaken batch (λ own. tt)
 first_says env _ batch = tt
 

@@ -13,7 +13,7 @@ use Rattle.rht_words.proofs.Members.{in-middle}
 use Rattle.rht_arena.specs.NewNode.{NewNodeModel, new_node_after}
 use Rattle.rht_chain.specs.Relink.{RelinkModel, has_relinked, relink_after}
 use Rattle.rht_model.specs.declared.history.Call.{Call}
-use Rattle.rht_model.specs.declared.history.Call.TheVariants.{Rebind, Tidy}
+use Rattle.rht_model.specs.declared.history.Call.TheVariants.{Tidy}
 use Rattle.rht_model.specs.declared.history.Reply.{Reply}
 use Rattle.rht_model.specs.Endings.{Ending, plain_ending}
 use Rattle.rht_find.specs.Find as find
@@ -108,7 +108,6 @@ taken_with (Some job) = taken_of job
 
 -- at its beginning a call has taken none
 first-untaken : (env : Env) (call : Call) (batch : Option BatchModel) → IfSome (first_job env batch call) (λ job. taken_of job ≡ None)
-first-untaken env (Rebind port owner new) batch = refl
 first-untaken env Tidy batch = first_tidy-so (λ job. taken_of job ≡ None) batch (λ own. refl)
 first-untaken env _ batch = refl
 

@@ -8,7 +8,7 @@ use Rattle.rht_words.specs.declared.geometry.Geometry.{Geometry}
 use Rattle.rht_words.specs.declared.machine.Next.{Next}
 use Rattle.rht_words.specs.declared.machine.Next.TheVariants.{Go, Done}
 use Rattle.rht_model.specs.declared.history.Call.{Call}
-use Rattle.rht_model.specs.declared.history.Call.TheVariants.{Rebind, Tidy}
+use Rattle.rht_model.specs.declared.history.Call.TheVariants.{Tidy}
 use Rattle.rht_model.specs.declared.history.Reply.{Reply}
 use Rattle.rht_model.specs.declared.history.Reply.TheVariants.{Clear, Pending}
 use Rattle.rht_model.specs.Endings.{Ending}
@@ -63,7 +63,6 @@ begun_none batch = go (length batch.waiting) refl
         ap (λ (b : BatchModel × TidyAt). given_at b.1) (begun-some batch (omega (arith, some))) ∙ asked-none (first_odd batch.kept 0)
 
 first-given : (env : Env) (call : Call) (batch : Option BatchModel) → IfSome (first_job env batch call) (λ job. given_of job ≡ 0)
-first-given env (Rebind port owner new) batch = refl
 first-given env Tidy batch = first_tidy-so (λ job. given_of job ≡ 0) batch begun_none
 first-given env _ batch = refl
 

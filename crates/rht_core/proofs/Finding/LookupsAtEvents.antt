@@ -378,8 +378,6 @@ module _ (L : Type 0) (mix : ℕ → ℕ → ℕ → ℕ) (env : Env) where
         → IfSome (first_job env batch call) (λ job. JobLooks more core' placed' (then c) c (length events) [] (Some job))
     first-looks c low (calls.Find port) batch =
         record { low = low; begun = omega (arith, longer); means = tt; spent = omega arith; met = λ slot within. tt }
-    first-looks c low (calls.Rebind port owner new) batch =
-        tt
     first-looks c low (calls.Walk from limit) batch = tt
     first-looks c low calls.Tidy batch =
         first_tidy-so (λ job. JobLooks more core' placed' (then c) c (length events) [] (Some job)) batch (λ own. tt)

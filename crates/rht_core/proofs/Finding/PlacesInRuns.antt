@@ -179,6 +179,7 @@ module _ (env : Env) (mix : ℕ → ℕ → ℕ → ℕ) (L : Type 0) where
       keys = λ i n m p is. absurd (cc);
       of_port = λ port first behind n j i p bound. absurd (cc);
       leads = λ i n p none is. absurd (cc);
+      died_used = λ n t is. absurd (cc);
     };
     deaths = λ n t among used none is. absurd (cc);
     said = λ n t among used. absurd (cc);

@@ -156,8 +156,7 @@ module _ (M : Type 0) (mix : ℕ → ℕ → ℕ → ℕ) (env : Env) (events : 
   first-saw : (call : Call) (batch : Option BatchModel) → IfSome (first_job env batch call) (λ job. JobSaw env c words_at mix job [])
   first-saw (Bind port owner once) batch = (λ node l. absurd (omega arith), (tt, tt))
   first-saw (Release port owner) batch = (tt, tt)
-  first-saw (Rebind port owner new) batch =
-      (λ node l. absurd (omega arith))
+  first-saw (Rebind port owner new) batch = λ node l. absurd (omega arith)
   first-saw Work batch = refl
   first-saw Tidy batch = first_tidy-so (λ job. JobSaw env c words_at mix job []) batch (first_tidy-saw env.geometry)
   first-saw _ batch = tt

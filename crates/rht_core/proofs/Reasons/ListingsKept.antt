@@ -207,7 +207,6 @@ module _ (mix : ℕ → ℕ → ℕ → ℕ) (env : Env) where
   -- at its beginning a listing has loaded none, and its room is empty
   first-keeps : (call : Call) (batch : Option BatchModel) → IfSome (first_job env batch call) (λ job. Keeps job [])
   first-keeps (All port) batch = refl
-  first-keeps (Rebind port owner new) batch = tt
   first-keeps Tidy batch = first_tidy-so (λ job. Keeps job []) batch (λ own. tt)
   first-keeps _ batch = tt
 

@@ -6,7 +6,7 @@ use Rattle.rht_words.specs.declared.env.Env.{Env}
 use Rattle.rht_words.specs.declared.machine.Next.{Next}
 use Rattle.rht_words.specs.declared.machine.Next.TheVariants.{Go, Done}
 use Rattle.rht_model.specs.declared.history.Call.{Call}
-use Rattle.rht_model.specs.declared.history.Call.TheVariants.{Rebind, Tidy}
+use Rattle.rht_model.specs.declared.history.Call.TheVariants.{Tidy}
 use Rattle.rht_model.specs.Endings.{Ending, plain_ending}
 use Rattle.rht_bind.specs.declared.bind.BindAt.{BindAt}
 use Rattle.rht_bind.specs.declared.bind.BindAt.TheVariants as binding
@@ -57,7 +57,6 @@ module _ (env : Env) (mix : ℕ → ℕ → ℕ → ℕ) where
 
   -- it is so of a job with which a call begins
   first-tied : (G : Ghost) (call : Call) (batch : Option BatchModel) → IfSome (first_job env batch call) (tied_of G)
-  first-tied G (Rebind port owner new) batch = tt
   first-tied G Tidy batch = first_tidy-so (tied_of G) batch (λ own. tt)
   first-tied G _ batch = tt
 

@@ -11,7 +11,7 @@ use Rattle.rht_words.specs.Machines.{Performed, Ran, ran, went_on}
 use Rattle.rht_words.specs.Shapes.{unpacked, size_of}
 use Rattle.rht_words.proofs.EachElement.{AllByRecursion-weaker}
 use Rattle.rht_model.specs.declared.history.Call.{Call}
-use Rattle.rht_model.specs.declared.history.Call.TheVariants.{Rebind, Walk, Tidy}
+use Rattle.rht_model.specs.declared.history.Call.TheVariants.{Walk, Tidy}
 use Rattle.rht_model.specs.declared.history.Cursor.{Cursor}
 use Rattle.rht_model.specs.declared.history.Reply.{Reply}
 use Rattle.rht_model.specs.Endings.{Ending, ending_in}
@@ -150,7 +150,6 @@ module _ (mix : ℕ → ℕ → ℕ → ℕ) (env : Env) (c : ℕ) where
   other-ended _ ending steps other = tt
 
   first-now : (call : Call) (batch : Option BatchModel) → IfSome (first_job env batch call) (λ job. Now job [])
-  first-now (Rebind port owner new) batch = tt
   first-now (Walk from limit) batch = λ olds. refl
   first-now Tidy batch = first_tidy-so (λ job. Now job []) batch (λ own. tt)
   first-now _ batch = tt

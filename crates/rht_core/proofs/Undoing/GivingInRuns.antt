@@ -13,7 +13,7 @@ use Rattle.rht_words.specs.declared.op.Op.{Op}
 use Rattle.rht_words.specs.Operations.{old_of}
 use Rattle.rht_words.specs.Places.{Slot, StateWord, word_at}
 use Rattle.rht_model.specs.declared.history.Call.{Call}
-use Rattle.rht_model.specs.declared.history.Call.TheVariants.{Rebind, Tidy}
+use Rattle.rht_model.specs.declared.history.Call.TheVariants.{Tidy}
 use Rattle.rht_model.specs.Endings.{Ending}
 use Rattle.rht_nest.specs.Place.{top_page}
 use Rattle.rht_grace.specs.Batch.{BatchModel}
@@ -175,8 +175,6 @@ module _ (env : Env) (mix : ℕ → ℕ → ℕ → ℕ) where
     -- a call begins at the lock, or behind it
     first_stage : (past : List Event) (steps : List Did) (call : Call) (batch : Option BatchModel)
         → IfSome (first_job env batch call) (λ job. KeepsInStage past (stage_of job) steps)
-    first_stage past steps (Rebind port owner new) batch =
-        tt
     first_stage past steps Tidy batch = first_tidy-so (λ job. KeepsInStage past (stage_of job) steps) batch (λ own. tt)
     first_stage past steps _ batch = tt
 

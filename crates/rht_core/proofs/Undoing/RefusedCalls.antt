@@ -20,7 +20,7 @@ use Rattle.rht_words.specs.Operations.{old_of, applied}
 use Rattle.rht_words.specs.Places.{Slot, FutureWord}
 use Rattle.rht_words.proofs.EachElement.{AllByRecursion-push}
 use Rattle.rht_model.specs.declared.history.Call.{Call}
-use Rattle.rht_model.specs.declared.history.Call.TheVariants.{Rebind, Work, Tidy}
+use Rattle.rht_model.specs.declared.history.Call.TheVariants.{Work, Tidy}
 use Rattle.rht_model.specs.declared.history.Reply.{Reply}
 use Rattle.rht_model.specs.declared.history.Reply.TheVariants as replies
 use Rattle.rht_model.specs.Answers.{Answer, is_change}
@@ -520,13 +520,10 @@ module _ (M : Type 0) (mix : ℕ → ℕ → ℕ → ℕ) (env : Env) (events : 
       by_case false may = leads_on job steps did may kept performs own here giving came
 
   first-stored : (call : Call) (batch : Option BatchModel) → IfSome (first_job env batch call) (λ job. JobStored env job [])
-  first-stored (Rebind port owner new) batch = tt
   first-stored Tidy batch = first_tidy-so (λ job. JobStored env job []) batch (λ own. tt)
   first-stored _ batch = tt
 
   first-undoes : (call : Call) (batch : Option BatchModel) → IfSome (first_job env batch call) (λ job. UndoesInStage (stage_of job) job [])
-  first-undoes (Rebind port owner new) batch =
-      (nothing_undone (Rebind port owner new))
   first-undoes Tidy batch = first_tidy-so (λ job. UndoesInStage (stage_of job) job []) batch (λ own. nothing_undone Tidy)
   first-undoes Work batch = refl
   first-undoes call batch = nothing_undone call

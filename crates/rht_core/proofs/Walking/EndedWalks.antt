@@ -328,8 +328,6 @@ module _ (L : Type 0) (mix : ℕ → ℕ → ℕ → ℕ) (env : Env) (events : 
     known = refl;
     keeps = record { none = refl; nothing = refl };
   }
-  first_walks c low (calls.Rebind port owner new) batch =
-      tt
   first_walks c low calls.Tidy batch =
       first_tidy-so (λ job. JobWalks L mix env all_events (world_step mix (R L mix env events).world event).core placed_then counts
       (turn.then c) c
