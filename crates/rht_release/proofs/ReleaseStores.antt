@@ -28,7 +28,7 @@ use Rattle.rht_release.specs.FoundPort.{relink_of}
 use Rattle.rht_release.specs.declared.found_port.FoundPort.{FoundPort}
 use Rattle.rht_ghost.proofs.Theory.Ghosts.{put-same, put-other, Bucket, Owner, NodeHeld, First, Taken, Ghost, is_taken_by, taken_by_one}
 use Rattle.rht_ghost.proofs.Theory.Wholes.{list_of, place_at, word_index, place_at-index, MovesNone, Whole, outs as count_outs, at-there}
-use Rattle.rht_ghost.proofs.Theory.Knowns.{knows_plain, Nowhere, KnownBucket, TakenOut, LocksTakenOut, KnownList, CutsOut, LeadsTo, Promotes, Known, NoOwner, last_of, first_of_list}
+use Rattle.rht_ghost.proofs.Theory.Knowns.{knows_plain, Nowhere, KnownBucket, TakenOut, LocksTakenOut, KnownList, LinkBehind, LeadsTo, Promotes, Known, NoOwner, last_of, first_of_list}
 use Rattle.rht_ghost.proofs.Theory.Knowledge.{plainly, HasOnly, idle_moves_none, HoldsLock, IsAtHome, HasTakenOut, Knowing, IsFound, BucketMeans}
 use Rattle.rht_ghost.proofs.Theory.Passed.{stays_in}
 use Rattle.rht_ghost.proofs.Theory.Frames.{Made}
@@ -40,7 +40,7 @@ use Rattle.rht_ghost.proofs.Moves.Removing.{IsFoundIn, CanReplace, unlink, repla
 use Rattle.rht_ghost.proofs.Moves.ListCuts.{cut_list, cutting_known}
 use Rattle.rht_ghost.proofs.Pieces.Lists.{segment_link, list_among, list_rest}
 use Rattle.rht_ghost.proofs.Pieces.Rebounds.{IsTakenWith, taken_then, taken_more, only_rebound, owners_kept, node_behind_maps, node_before_pages}
-use Rattle.rht_release.proofs.Seeks.{home_of, in_list}
+use Rattle.rht_release.proofs.ListSearches.{no_owner, knows_list}
 use Rattle.rht_ghost.proofs.Pieces.Relinks.{lock_left, relink_write, relink_behind_maps, relink_left_lock, holder_left, lock_kept}
 
 -- what is known of the bucket alone
@@ -49,7 +49,7 @@ here bucket = knows_plain None Nowhere bucket
 
 -- what is known of the list of a port that was found
 abbrev pub listed : ℕ → FoundPort → KnownList → Known
-listed port found known = knows_plain None (home_of port found) (in_list port found known)
+listed port found known = knows_list None port found known
 
 -- the bucket is locked, and this node taken out
 abbrev pub locks_taken : FoundPort → ℕ → KnownBucket
@@ -95,11 +95,6 @@ module _ (env : Env) (mix : ℕ → ℕ → ℕ → ℕ) (c : ℕ) (port owner :
     -- the words after an operation
     abbrev after : Op → Memory
     after op = mem env mix (applied words op)
-
-    -- nodes of which none has the owner have other owners
-    pub no_owner : (nodes : List ℕ) → NoOwner M owner nodes → NotIn owner (owners_in env mix M nodes)
-    no_owner [] none = tt
-    no_owner (node ∷ nodes) none = (λ e. none.0 (sym e), no_owner nodes none.1)
 
     -- ---- what any such store does
 
@@ -154,7 +149,7 @@ module _ (env : Env) (mix : ℕ → ℕ → ℕ → ℕ) (c : ℕ) (port owner :
         let before_it = owners_in env mix M front in
         let behind_it = owners_in env mix M rear in
         let said : ℕ → ℕ = λ n. owner_of (M (Node n OwnerWord)) in
-        let none = no_owner front takes.none in
+        let none = no_owner env mix M owner front takes.none in
         let was : now port ≡ before_it ++ owner ∷ behind_it =
         ap (owners_in env mix M) takes.bound_to ∙ map-append said front (node ∷ rear)
         ∙ ap (λ o. before_it ++ o ∷ behind_it) takes.owner_is in
@@ -243,7 +238,7 @@ module _ (env : Env) (mix : ℕ → ℕ → ℕ → ℕ) (c : ℕ) (port owner :
         }
 
     -- The port's first node isn't on its way out of any bucket, where it was found in the bucket to which the caller has come.
-    found_stays : (found : FoundPort) (behind : List ℕ)
+    pub found_stays : (found : FoundPort) (behind : List ℕ)
         → (is : IsFound env mix c M G found.bucket.place found.bucket.word port found.node found.before)
         → IsAtHome env mix c G port found.table (Some found.shape) found.bucket.place
         → MovesNone env mix G c → G.bound port ≡ found.node ∷ behind
@@ -269,7 +264,7 @@ module _ (env : Env) (mix : ℕ → ℕ → ℕ → ℕ) (c : ℕ) (port owner :
         (KnowsLeft (Some found.bucket.place) false (locks_taken found node))
 
     pub cut_store : (found : FoundPort) (node before link : ℕ)
-        → KnowsList found (CutsOut node before link owner) M G
+        → KnowsList found (LinkBehind node (Some before) link owner) M G
         → CutsStep found node before link
     cut_store found node before link k =
         let stands = k.means.bucket.means.is.stands in
@@ -428,7 +423,7 @@ module _ (env : Env) (mix : ℕ → ℕ → ℕ → ℕ) (c : ℕ) (port owner :
         means M' G' (Some node) took lock = record { lock = lock node refl; took = took }
 
     -- what the moves of such a store ask
-    found_in : (found : FoundPort) (link : ℕ)
+    pub found_in : (found : FoundPort) (link : ℕ)
         (is : IsFound env mix c M G found.bucket.place found.bucket.word port found.node found.before)
         (behind : List ℕ) → IsAtHome env mix c G port found.table (Some found.shape) found.bucket.place
         → MovesNone env mix G c → G.bound port ≡ found.node ∷ behind
