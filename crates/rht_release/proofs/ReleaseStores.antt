@@ -37,6 +37,7 @@ use Rattle.rht_ghost.proofs.Theory.Answering.{IsRight, ChangesBindings}
 use Rattle.rht_ghost.proofs.Theory.Steps.{Rebinds, Holding, mem, owners, owners_in, owners-stay, Step, still_has}
 use Rattle.rht_ghost.proofs.Moves.Relinking.{relink_address, relink_value, relinked, last_in}
 use Rattle.rht_ghost.proofs.Moves.Removing.{IsFoundIn, CanReplace, unlink, replace, unlinking_known, replacing_known}
+use Rattle.rht_ghost.proofs.Moves.Relisting.{IsBehindFirst}
 use Rattle.rht_ghost.proofs.Moves.ListCuts.{cut_list, cutting_known}
 use Rattle.rht_ghost.proofs.Pieces.Lists.{segment_link, list_among, list_rest}
 use Rattle.rht_ghost.proofs.Pieces.Rebounds.{IsTakenWith, taken_then, taken_more, only_rebound, owners_kept, node_behind_maps, node_before_pages}
@@ -299,6 +300,16 @@ module _ (env : Env) (mix : ℕ → ℕ → ℕ → ℕ) (c : ℕ) (port owner :
             (list_rest env mix M G whole port m is.behind is.bound_to node (Some before) cuts.is.stands.among)
             ∙ cuts.link_is in
             let mine = (whole.owned.bound_to port m nodes bound).each node (in-middle node front rear) in
+            let still = idle_moves_none env mix M G whole c k.only in
+            let behind_first : IsBehindFirst env mix c port j m node before front rear M (after op) G = record {
+              holder = lock.holder;
+              there = subst (In m) (sym stands.split) (in-middle m stands.front stands.rear);
+              key_is = is.found.key_is;
+              bound_to = bound;
+              last = last_is;
+              moves_none = still;
+              not_out = found_stays found nodes is.found k.means.table still bound;
+            } in
             take_out found op node (m ∷ front) rear (G.bucket j) node (Taken c) (G.raised c)
             (Some found.bucket.place) (locks_taken found node) false (sym k.only.raising) (record {
               only = k.only;
@@ -311,28 +322,8 @@ module _ (env : Env) (mix : ℕ → ℕ → ℕ → ℕ) (c : ℕ) (port owner :
               untaken = ap (is_taken_by c) mine;
               with_other = inl (refl, refl);
               not_held = λ e. cc;
-              made = cut_list env mix c port j m node before front rear M (after op) G whole low link link_is
-                  (record {
-                    holder = lock.holder;
-                    there = subst (In m) (sym stands.split) (in-middle m stands.front stands.rear);
-                    key_is = is.found.key_is;
-                    bound_to = bound;
-                    last = last_is;
-                    moves_none = idle_moves_none env mix M G whole c k.only;
-                    not_out = found_stays found nodes is.found k.means.table
-                        (idle_moves_none env mix M G whole c k.only) bound;
-                  }) write;
-              ready = inr (inr (cutting_known env mix c port j m node before front rear M (after op) G whole
-                  (record {
-                    holder = lock.holder;
-                    there = subst (In m) (sym stands.split) (in-middle m stands.front stands.rear);
-                    key_is = is.found.key_is;
-                    bound_to = bound;
-                    last = last_is;
-                    moves_none = idle_moves_none env mix M G whole c k.only;
-                    not_out = found_stays found nodes is.found k.means.table
-                        (idle_moves_none env mix M G whole c k.only) bound;
-                  })));
+              made = cut_list env mix c port j m node before front rear M (after op) G whole low link link_is behind_first write;
+              ready = inr (inr (inl (cutting_known env mix c port j m node before front rear M (after op) G whole behind_first)));
               left = inl (refl, node_before_pages env.geometry before ListLink before_in);
               holder = λ e. refl;
               means = λ took. record {
