@@ -432,7 +432,13 @@ fn rebinds_that_are_made(rt: HostRuntime) {
     let parts: [&[Op]; 3] = [&new_node(69), &way(), &front];
     assert_rebind(&rt, (69, 1), &[], &parts, (Reply::Rebound, Some(1)));
     // The owner may take its own place.
-    assert_rebind(&rt, (69, 11), &[(288, 11)], &parts, (Reply::Rebound, Some(1)));
+    assert_rebind(
+        &rt,
+        (69, 11),
+        &[(288, 11)],
+        &parts,
+        (Reply::Rebound, Some(1)),
+    );
     let later = [
         Op::load(300),
         Op::load(301),

@@ -1,5 +1,5 @@
 -- A rebind, operation by operation: each leads from what it knows to what it knows next.
-use Rattle.std.proofs.Common.{◌≡◌, ℕ, ◌^◌, ◌<◌, List, [], ◌∷◌, length, Option, Some, None, Bool, true, false, refl, sym, ◌∙◌, ap, subst, inl, inr}
+use Rattle.std.proofs.Common.{◌≡◌, ℕ, ◌^◌, ◌<◌, List, ◌∷◌, length, Option, Some, None, Bool, true, false, refl, sym, ◌∙◌, ap, subst, inl, inr}
 use Rattle.std.proofs.lemmas.Bool.{cases_eq}
 use Rattle.rht_words.specs.declared.env.Env.{Env}
 use Rattle.rht_words.specs.declared.op.Op.TheVariants.{Store}
@@ -38,7 +38,7 @@ use Rattle.rht_release.specs.declared.rebind.RebindAt.{RebindAt}
 use Rattle.rht_release.specs.declared.rebind.RebindAt.TheVariants as at
 use Rattle.rht_ghost.proofs.Theory.Ghosts.{Ghost}
 use Rattle.rht_ghost.proofs.Theory.Wholes.{Whole}
-use Rattle.rht_ghost.proofs.Theory.Knowns.{KnownNode, Nowhere, Unlocked, TakenOut, LocksTakenOut, LinkBehind, Copied, CopiedTo, LeadsTo, list_link, first_of_list}
+use Rattle.rht_ghost.proofs.Theory.Knowns.{KnownNode, Nowhere, Unlocked, TakenOut, LocksTakenOut, LinkBehind, Copied, CopiedTo, list_link}
 use Rattle.rht_ghost.proofs.Theory.Knowledge.{plainly, Knowing}
 use Rattle.rht_ghost.proofs.Theory.Answering.{IsLegalOn, IsRight, keeps, learns}
 use Rattle.rht_ghost.proofs.Theory.Steps.{answered-map, Holding, mem, owners, SilentStep, silent-map, Step, StepWhere, step-map, reads, still_has}
@@ -55,13 +55,6 @@ use Rattle.rht_release.proofs.RebindKnowledge.{own, copied, knows_of, listed, kn
 use Rattle.rht_release.proofs.ReleaseKnowledge.{known_removed, behind_node}
 use Rattle.rht_release.proofs.RebindKnowledge as rebinds
 use Rattle.rht_release.proofs.RebindStores as stores
-
--- nodes with the same first one have the same link to it
-same_first : (nodes others : List ℕ) → first_of_list nodes ≡ first_of_list others → list_link nodes ≡ list_link others
-same_first [] [] same = refl
-same_first [] (other ∷ others) same = absurd (cc)
-same_first (node ∷ nodes) [] same = absurd (cc)
-same_first (node ∷ nodes) (other ∷ others) same = let first : node ≡ other = cc in ap link_of first
 
 module _ (env : Env) (mix : ℕ → ℕ → ℕ → ℕ) (c : ℕ) (port owner new : ℕ)
     (small : new < 2 ^ 32) (low : c < env.geometry.callers)
@@ -309,40 +302,23 @@ module _ (env : Env) (mix : ℕ → ℕ → ℕ → ℕ) (c : ℕ) (port owner n
   linked : (n : ℕ) (found : FoundPort) (link : ℕ) → RebindKnows (at.Link n found link) M G
       → ReplacingNext n found link false
   linked n found link known =
-      let k = known.knowing in
-      let is = k.means.bucket in
-      let node = k.means.node in
-      let list = list_link is.behind in
-      let second = first_of_list is.behind in
       answered-map env mix None (inl refl) (still_has refl)
       (λ M' G' w k. let node = k.means.node in let is = k.means.bucket in (
         plainly env mix k.only
-        (record { has = node.has; chain = tt; key = node.key; owner = node.owner; list = tt }) k.means.table (record {
-          found = is.found;
-          behind = is.behind;
-          bound_to = is.bound_to;
-          means = record {
-            owner_is = is.means.leads.owner_is;
-            list_is = node.list ∙ same_first known.knowing.means.bucket.behind is.behind is.means.leads.second_is;
-            replaces = record { has = node.has; alike = node.chain ∙ sym is.means.link_is };
-          };
-        }),
+            (record { has = node.has; chain = tt; key = node.key; owner = node.owner; list = tt }) k.means.table (record {
+              found = is.found;
+              behind = is.behind;
+              bound_to = is.bound_to;
+              means = record {
+                owner_is = is.means.owner_is;
+                list_is = is.means.list_is;
+                replaces = record { has = node.has; alike = node.chain ∙ sym is.means.link_is };
+              };
+            }),
         refl,
       ))
-      (nodes.fill_step env mix c (locked found) (seeks.home_of port found)
-      (in_list port found (LeadsTo second link owner)) words G all whole tt
-      (record (own port owner new n) { list = Some list }) ChainLink link
-      (plainly env mix k.only
-      (record { has = node.has; chain = tt; key = node.key; owner = node.owner; list = is.means.list_is }) k.means.table
-      (record {
-        found = is.found;
-        behind = is.behind;
-        bound_to = is.bound_to;
-        means = record {
-          leads = record { owner_is = is.means.owner_is; second_is = refl };
-          link_is = is.means.link_is;
-        };
-      })))
+      (nodes.store_step env mix c (locked found) (seeks.home_of port found) (in_list port found (CopiedTo n link owner))
+      words G all whole (copied port owner new n) ChainLink link (λ e. cc) known.knowing)
 
   link_next : (n : ℕ) (found : FoundPort) (link : ℕ) → RebindKnows (at.Link n found link) M G
       → RebindStep (at.Link n found link)

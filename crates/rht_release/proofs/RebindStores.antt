@@ -26,21 +26,21 @@ use Rattle.rht_model.proofs.ReboundOwners.{rebind_reply-there, owners_rebound-th
 use Rattle.rht_release.specs.Seek.{holds_section}
 use Rattle.rht_release.specs.RebindHeld.{holds_found}
 use Rattle.rht_release.specs.declared.found_port.FoundPort.{FoundPort}
-use Rattle.rht_ghost.proofs.Theory.Ghosts.{put-same, put-other, Bucket, Owner, NodeHeld, First, Behind, Taken, Ghost, is_taken_by, held_not_first, taken_by_one}
+use Rattle.rht_ghost.proofs.Theory.Ghosts.{put-same, put-other, Bucket, Owner, NodeHeld, First, Behind, Taken, Ghost, is_used, is_taken_by, held_not_first, held_not_used, taken_by_one}
 use Rattle.rht_ghost.proofs.Theory.Wholes.{list_of, word_index, place_at, place_at-index, outs, Whole, MovesNone}
-use Rattle.rht_ghost.proofs.Theory.Knowns.{KnownBucket, KnownList, Copied, Succeeds, NoOwner, list_link, last_of}
-use Rattle.rht_ghost.proofs.Theory.Knowledge.{plainly, HasOnly, HoldsLock, HasNode, HasTakenOut, BucketMeans, Knowing, idle_moves_none}
+use Rattle.rht_ghost.proofs.Theory.Knowns.{KnownBucket, KnownList, Copied, Succeeds, NoOwner}
+use Rattle.rht_ghost.proofs.Theory.Knowledge.{plainly, HasOnly, HoldsLock, HasTakenOut, BucketMeans, Knowing, idle_moves_none}
 use Rattle.rht_ghost.proofs.Theory.Frames.{Made}
 use Rattle.rht_ghost.proofs.Theory.Readiness.{Change, changed, IsRebinding}
 use Rattle.rht_ghost.proofs.Theory.Answering.{IsLegalOn, IsRight, Stills, ChangesBindings, Says}
 use Rattle.rht_ghost.proofs.Theory.Steps.{Rebinds, Holding, mem, owners, owners_in, owners-stay, Step}
-use Rattle.rht_ghost.proofs.Moves.Relinking.{relink_address, relink_value, relinked, last_in}
+use Rattle.rht_ghost.proofs.Moves.Relinking.{relink_address, relink_value}
 use Rattle.rht_ghost.proofs.Moves.Removing as removing
 use Rattle.rht_ghost.proofs.Moves.Removing.{IsFoundIn, CanReplace}
-use Rattle.rht_ghost.proofs.Moves.Relisting.{IsBehindFirst}
-use Rattle.rht_ghost.proofs.Moves.ListSwaps.{CanSwap, swap_differs, swap_made, swap_known}
-use Rattle.rht_ghost.proofs.Pieces.Lists.{segment_link, list_among, list_rest}
-use Rattle.rht_ghost.proofs.Pieces.Rebounds.{IsTakenWith, taken_then, taken_more, only_left, owners_kept, node_behind_maps, node_before_pages}
+use Rattle.rht_ghost.proofs.Moves.ListSwaps.{CanSwap, swapping, swap_made, swap_known}
+use Rattle.rht_ghost.proofs.Pieces.LaterNodes.{lies_behind, first_stays, later_behind, later_link, before_among, behind_first}
+use Rattle.rht_ghost.proofs.Pieces.Lists.{segment_link, list_among}
+use Rattle.rht_ghost.proofs.Pieces.Rebounds.{IsTakenWith, taken_then, taken_more, only_left, lock_stays, owners_kept, node_behind_maps, node_before_pages}
 use Rattle.rht_ghost.proofs.Pieces.Relinks.{lock_left, first_store, relink_write, relink_behind_maps, relink_left_lock, relink_leaves, holder_left, lock_kept}
 use Rattle.rht_release.proofs.ListSearches.{no_owner}
 use Rattle.rht_release.proofs.ReleaseStores.{here, locks_taken, known_left}
@@ -80,7 +80,8 @@ module _ (env : Env) (mix : ℕ → ℕ → ℕ → ℕ) (c : ℕ) (port owner n
 
     -- ---- what any such store does
 
-    -- It does this to these nodes of the list, with this bucket and owner of the new node behind it.
+    -- By this operation the new node comes into the old one's place, between these others. Then it has this owner, and the bucket is this one;
+    -- the call has this lock, and knows this of the bucket.
     module _ (found : FoundPort) (op : Op) (n old : ℕ) (front rear : List ℕ) (bucket : Bucket) (n_owner : Owner)
         (lock : Option ℕ) (known : KnownBucket) where
       abbrev M' : Memory
@@ -147,7 +148,7 @@ module _ (env : Env) (mix : ℕ → ℕ → ℕ → ℕ) (c : ℕ) (port owner n
         is_now : after port ≡ before_it ++ new ∷ behind_it
         is_now =
             let kept : (nodes : List ℕ) → ((k : ℕ) → In k nodes → In k (front ++ old ∷ rear))
-                → owners_in env mix M' nodes ≡ owners_in env mix M nodes = λ nodes among.
+            → owners_in env mix M' nodes ≡ owners_in env mix M nodes = λ nodes among.
             owners_kept env mix c G M M' G' whole puts.made port nodes
             (λ k i. subst (In k) (sym puts.bound_to) (among k i)) in
             let front_kept = kept front (λ k i. In-append_left k front (old ∷ rear) i) in
@@ -421,80 +422,56 @@ module _ (env : Env) (mix : ℕ → ℕ → ℕ → ℕ) (c : ℕ) (port owner n
     pub swap_store : (n : ℕ) (found : FoundPort) (old before : ℕ)
         → KnowsList n found (Copied old (Some before) n owner) M G → SwapStep n found old before
     swap_store n found old before k =
-        let stands = k.means.bucket.means.is.stands in
-        go stands.among.front stands.among.split stands.among.last stands.none
-      where
-        rear : List ℕ
-        rear = k.means.bucket.means.is.stands.among.rear
-
-        go : (front : List ℕ) → found.node ∷ k.means.bucket.behind ≡ front ++ old ∷ rear → Some before ≡ last_of front
-            → NoOwner M owner front → SwapStep n found old before
-        go [] split last none = absurd (cc)
-        go (first ∷ front) split last none =
-            let is = k.means.bucket in
-            let node = k.means.node in
-            let lock = is.found.standing.lock in
-            let stands = is.found.standing.stands in
-            let op = swap_op n before in
-            let then = mem env mix (applied words op) in
-            let j = word_index env mix found.bucket.place in
-            let m = found.node in
-            let nodes = front ++ old ∷ rear in
-            let same : first ≡ m = cc in
-            let bound : G.bound port ≡ m ∷ nodes = is.bound_to ∙ split ∙ ap (λ x. x ∷ nodes) same in
-            let last_is : last_of (m ∷ front) ≡ Some before =
-            sym (last ∙ ap (λ x. last_of (x ∷ front)) same) in
-            let before_in = list_among env mix M G whole port m nodes bound before
-            (In-append_left before (m ∷ front) (old ∷ rear) (last_in (m ∷ front) before last_is)) in
-            let write : IsWrite env.geometry M then (Node before ListLink) (link_of n) =
-            is_write env.geometry words (Node before ListLink) op all before_in refl in
-            let link_is : list_of M old ≡ list_link rear =
-            segment_link (list_of M) (list_of M old) rear
-            (list_rest env mix M G whole port m is.behind is.bound_to old (Some before) is.means.is.stands.among) in
-            let mine = (whole.owned.bound_to port m nodes bound).each old (in-middle old front rear) in
-            let still = idle_moves_none env mix M G whole c k.only in
-            let behind_first : IsBehindFirst env mix c port j m old before front rear M then G = record {
-              holder = lock.holder;
-              there = subst (In m) (sym stands.split) (in-middle m stands.front stands.rear);
-              key_is = is.found.key_is;
-              bound_to = bound;
-              last = last_is;
-              moves_none = still;
-              not_out = releases.found_stays env mix c port owner low words G all whole found nodes is.found
-                  k.means.table still bound;
-            } in
-            let can : CanSwap env mix c port j m old before n front rear M then G = record {
-              has = node.has;
-              key_is = node.key;
-              list_is = is.means.list_is ∙ sym link_is;
-            } in
-            put_in found op n old (m ∷ front) rear (G.bucket j) (Behind port) (Some found.bucket.place)
-            (locks_taken found old) (record {
-              only = k.only;
-              there = place_at-index env mix found.bucket.place lock.bucket;
-              behind_maps = node_behind_maps env.geometry before ListLink;
-              bound_to = bound;
-              none = subst (λ x. NoOwner M owner (x ∷ front)) same none;
-              owner_is = is.means.is.owner_is;
-              new_is = write.others (Node n OwnerWord) node.has.among (λ e. cc) ∙ node.owner;
-              among = (whole.owned.behind_in old port mine).among;
-              untaken = ap (is_taken_by c) mine;
-              differs = swap_differs env mix c port j m old before n front rear M then G whole behind_first can;
-              mine = node.has.mine;
-              not_taken = refl;
-              not_held = λ e. cc;
-              made = swap_made env mix c port j m old before n front rear M then G whole behind_first can low write;
-              ready = swap_known env mix c port j m old before n front rear M then G whole behind_first can;
-              left = inl (refl, node_before_pages env.geometry before ListLink before_in);
-              holder = λ e. refl;
-              means = λ took. record {
-                lock = record {
-                  bucket = lock.bucket;
-                  holder = ap (λ b. b.holder) (put-same G.bucket j (G.bucket j)) ∙ lock.holder;
-                  plain = ap (λ b. b.plain) (put-same G.bucket j (G.bucket j)) ∙ lock.plain;
-                  unarmed = ap (λ b. b.armed) (put-same G.bucket j (G.bucket j)) ∙ lock.unarmed;
-                  still = ap (λ b. b.out) (put-same G.bucket j (G.bucket j)) ∙ lock.still;
-                };
-                took = took;
-              };
-            })
+        let is = k.means.bucket in
+        let node = k.means.node in
+        let stands = is.means.is.stands in
+        let among = stands.among in
+        let m = found.node in
+        let place = found.bucket.place in
+        let word = found.bucket.word in
+        let j = word_index env mix place in
+        let lock = is.found.standing.lock in
+        let lies = lies_behind m is.behind old before among in
+        let op = swap_op n before in
+        let then = mem env mix (applied words op) in
+        let before_in =
+        before_among env mix c port place word m found.before M G whole is.found is.behind is.bound_to old before among in
+        let mine =
+        later_behind env mix c port place word m found.before M G whole is.found is.behind is.bound_to old before among in
+        let link_is =
+        later_link env mix c port place word m found.before M G whole is.found is.behind is.bound_to old before among in
+        let none = idle_moves_none env mix M G whole c k.only in
+        let behind_it =
+        behind_first env mix c port place word m found.before M G whole is.found is.behind is.bound_to old before among then
+        none
+        (first_stays env mix c port place word m found.before M G whole is.found is.behind is.bound_to found.table
+        (Some found.shape) k.means.table none) in
+        let can : CanSwap env mix c port j m old before n lies.others among.rear M then G =
+        record { has = node.has; key_is = node.key; list_is = is.means.list_is ∙ sym link_is } in
+        let write : IsWrite env.geometry M then (Node before ListLink) (link_of n) =
+        is_write env.geometry words (Node before ListLink) op all before_in refl in
+        put_in found op n old (m ∷ lies.others) among.rear (G.bucket j) (Behind port) (Some place) (locks_taken found old)
+        (record {
+          only = k.only;
+          there = place_at-index env mix place lock.bucket;
+          behind_maps = node_behind_maps env.geometry before ListLink;
+          bound_to = behind_it.bound_to;
+          none = subst (NoOwner M owner) lies.front_is stands.none;
+          owner_is = is.means.is.owner_is;
+          new_is = write.others (Node n OwnerWord) node.has.among (λ e. cc) ∙ node.owner;
+          among = (whole.owned.behind_in old port mine).among;
+          untaken = ap (is_taken_by c) mine;
+          differs = λ e. held_not_used (G.node n) c node.has.mine (ap is_used (ap G.node e ∙ mine));
+          mine = node.has.mine;
+          not_taken = refl;
+          not_held = λ e. cc;
+          made = swap_made env mix c port j m old before n lies.others among.rear M then G whole behind_it can low write;
+          ready = swap_known env mix c port j m old before n lies.others among.rear M then G whole behind_it can;
+          left = inl (refl, node_before_pages env.geometry before ListLink before_in);
+          holder = λ e. refl;
+          means = λ took. record {
+            lock = lock_stays env mix c G (swapping env mix c port j m old before n lies.others among.rear M then G) place
+                word (G.bucket j).nodes refl refl lock;
+            took = took;
+          };
+        })
