@@ -272,10 +272,6 @@ module _ (env : Env) (mix : ℕ → ℕ → ℕ → ℕ) (c : ℕ) (port owner n
 
     -- ---- the first node is replaced in the chain
 
-    -- the lock that is left behind the first store of the relinking
-    abbrev pub left_by_first : FoundPort → Option ℕ
-    left_by_first found = lock_left found.bucket.place found.before
-
     module _ (n : ℕ) (found : FoundPort) (within : IsNodeOrNone env.geometry found.before)
         (k : KnowsList n found (Succeeds n owner) M G) where
       abbrev place : ℕ
@@ -370,20 +366,14 @@ module _ (env : Env) (mix : ℕ → ℕ → ℕ → ℕ) (c : ℕ) (port owner n
       abbrev chain_change : Change
       chain_change = removing.replacing env mix c port j m fore rest before M M_chain G n behind (Taken c)
 
-      chain_means : (b : Option ℕ)
-          → ((node : ℕ) → b ≡ Some node → HoldsLock env mix c (changed G c chain_change) place word)
-          → HasTakenOut env mix c (changed G c chain_change) m
-          → BucketMeans env mix c M_chain (changed G c chain_change) (known_left (record found { before = b }) b)
-      chain_means None still took = took
-      chain_means (Some node) still took = record { lock = still node refl; took = took }
-
-      pub chain_store : Step env mix c call words G chain_op (holds_found n found) (holds_left (left_by_first found))
-          (KnowsLeft (left_by_first found) (known_left found found.before))
+      -- the first store of the relinking, behind which this lock is left
+      pub chain_store : Step env mix c call words G chain_op (holds_found n found) (holds_left (lock_left place before))
+          (KnowsLeft (lock_left place before) (known_left found before))
       chain_store =
           let node = k.means.node in
           let others = fore ++ n ∷ rest in
-          put_in found chain_op n m [] behind chain_change.bucket (First j) (left_by_first found)
-          (known_left found found.before) (record {
+          put_in found chain_op n m [] behind chain_change.bucket (First j) (lock_left place before)
+          (known_left found before) (record {
             only = k.only;
             there = place_at-index env mix place lock.bucket;
             behind_maps = relink_behind_maps env mix place word (link_of n) before words all lock.bucket within;
@@ -405,7 +395,7 @@ module _ (env : Env) (mix : ℕ → ℕ → ℕ → ℕ) (c : ℕ) (port owner n
             left = relink_left_lock env mix place word (link_of n) before words all lock.bucket within (place_at env mix j)
                 (G.bucket j) others;
             holder = holder_left env mix place word (link_of n) before c G lock chain_change others refl refl;
-            means = chain_means before
+            means = releases.left_means env mix c port owner M_chain (changed G c chain_change) found before
                 (lock_kept env mix place word (link_of n) before c G lock chain_change others refl refl);
           })
 

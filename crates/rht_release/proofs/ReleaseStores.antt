@@ -78,6 +78,13 @@ module _ (env : Env) (mix : ℕ → ℕ → ℕ → ℕ) (c : ℕ) (port owner :
   abbrev pub left_by_first : FoundPort → Option ℕ
   left_by_first found = lock_left found.bucket.place found.before
 
+  -- and the node that was taken out, and the lock where a node is before it
+  pub left_means : (M : Memory) (G : Ghost) (found : FoundPort) (before : Option ℕ)
+      → ((node : ℕ) → before ≡ Some node → HoldsLock env mix c G found.bucket.place found.bucket.word)
+      → HasTakenOut env mix c G found.node → BucketMeans env mix c M G (known_left found before)
+  left_means M G found None lock took = took
+  left_means M G found (Some node) lock took = record { lock = lock node refl; took = took }
+
   pub released_right : (kick : Bool) → IsRight call None (plain (Released kick))
   released_right kick = record { replied = record { reply = tt; owners = refl }; tells = refl }
 
@@ -364,15 +371,9 @@ module _ (env : Env) (mix : ℕ → ℕ → ℕ → ℕ) (c : ℕ) (port owner :
           left = relink_left_lock env mix place word link found.before words all lock.bucket takes.before_in
               (place_at env mix j) (G.bucket j) nodes;
           holder = holder_left env mix place word link found.before c G lock change nodes refl refl;
-          means = λ took. means (after op) (changed G c change) found.before took
+          means = left_means (after op) (changed G c change) found found.before
               (lock_kept env mix place word link found.before c G lock change nodes refl refl);
         })
-      where
-        means : (M' : Memory) (G' : Ghost) (b : Option ℕ) → HasTakenOut env mix c G' found.node
-            → ((node : ℕ) → b ≡ Some node → HoldsLock env mix c G' found.bucket.place found.bucket.word)
-            → BucketMeans env mix c M' G' (known_left found b)
-        means M' G' None took lock = took
-        means M' G' (Some node) took lock = record { lock = lock node refl; took = took }
 
     -- what the moves of such a store ask
     pub found_in : (found : FoundPort) (link : ℕ)
@@ -456,14 +457,14 @@ module _ (env : Env) (mix : ℕ → ℕ → ℕ → ℕ) (c : ℕ) (port owner :
             is.bound_to ∙ ap (λ nodes. m ∷ nodes) (behind_is ∙ ap (λ n. n ∷ tail) same) in
             let to = whole.owned.bound_to port m behind bound in
             let mine = to.each second (inl refl) in
-            let behind_first = whole.owned.behind_in second port mine in
+            let second_is = whole.owned.behind_in second port mine in
             let other : second ≢ m = λ e. in_and_not m behind (inl (sym e)) to.distinct.0 in
             let not_second : In second tail → ⊥ = λ i. in_and_not second tail i to.distinct.1.0 in
             let can : CanReplace env mix c port j m s.front s.rear found.before M (after op) G behind second tail
             (Taken c) = record {
-              among = behind_first.among;
+              among = second_is.among;
               differs = other;
-              key_is = behind_first.key_is;
+              key_is = second_is.key_is;
               chain_is = is.means.alike;
               from = inr (inl refl);
               list = to.list.1;
