@@ -30,7 +30,7 @@ pub mod ReleaseLists
 pub mod ReleaseSteps
 -- what a rebind knows in each state
 pub mod RebindKnowledge
--- the store of a rebind, which puts its node in the place of the old one
+-- the stores of a rebind that put its node in the place of the old one
 pub mod RebindStores
 -- a rebind, operation by operation
 pub mod RebindSteps
