@@ -58,13 +58,26 @@ impl<M: Mix> Table<M> {
         match self.answer(rt, pass, call) {
             Reply::NoNode => {
                 self.tidy(pass);
-                self.answer(rt, pass, again)
+                self.answer_again(rt, pass, again)
             }
             reply => reply,
         }
     }
 
+    /// Makes a call other than a look-up, where it is made for the second time.
+    #[cold]
+    #[inline(never)]
+    fn answer_again<R: Wait>(&self, rt: &R, pass: &mut Pass<M>, call: Call) -> Reply
+        requires pass { IsPassOf M.mix_of self.now pass.old }
+        requires may { MayBegin self.now.env pass.old.number call pass.old.local }
+        requires other { (port : ℕ) → call ≢ Find port }
+        ensures { HasCalled M.mix_of self.now call result pass.old pass.new }
+    {
+        self.answer(rt, pass, call)
+    }
+
     /// Makes a call other than a look-up.
+    #[inline(always)]
     fn answer<R: Wait>(&self, rt: &R, pass: &mut Pass<M>, call: Call) -> Reply
         requires pass { IsPassOf M.mix_of self.now pass.old }
         requires may { MayBegin self.now.env pass.old.number call pass.old.local }
