@@ -58,7 +58,7 @@ module _ {M : Type 0} where
   abbrev pub local_of : Core M → ℕ → Local M
   local_of core c = local_in core.env core.locals c
 
-  -- what a caller does that is given this call; none where it isn't enrolled, is in a call, or has no machine for it
+  -- what a caller does that is given this call; none where it isn't enrolled or is in a call, or where a tidying has no batch
   abbrev pub beginning : Env → ℕ → List (Local M) → ℕ → Call → Option (Doing M)
   beginning env enrolled locals c call =
       if nat_lt c enrolled && is_idle (local_in env locals c) then machine_of env c (local_in env locals c).batch call else None

@@ -20,8 +20,6 @@ pub mod Lists
 pub mod Rebounds
 -- a node that a caller has found behind the first one of a port's list
 pub mod LaterNodes
--- another node is put into the place of such a one
-pub mod Swaps
 -- the stores of a relinking
 pub mod Relinks
 -- a node is put in front of the list of a port
