@@ -18,7 +18,7 @@ use Rattle.rht_script.specs.PortWords.{net_and_number, is_port_in}
 use Rattle.rht_script.specs.Sound.{is_sound_call, has_sound_numbers, is_sound_command}
 use Rattle.rht_script.specs.Spelling.{is_within}
 
--- the command is one of so many workers', and its call can be run in a table of this config
+-- the command is one of so many workers', and its call is sound for a table of this config
 pub record IsCommandFor (config : Config) (command : ℕ × Call) : Type 0 where
   pub first : 1 ≤ command.0
   pub last : command.0 ≤ config.callers
