@@ -31,7 +31,7 @@ module _ {M : Type 0} where
   AreEnrolled mix core = core ≡ (run_of mix core.env (replicate core.env.geometry.callers Enroll)).core
 
   -- each caller has a place
-  pub record CanPlay (commands : List (ℕ × Call)) (player : Player M) : Type 0 where
+  pub record CanPlay (player : Player M) : Type 0 where
     pub places : length player.next.items ≡ player.state.env.geometry.callers
 
   -- a caller took its next command, where it had one
@@ -45,7 +45,7 @@ module _ {M : Type 0} where
       (commands : List (ℕ × Call)) (part : Playing M × List ℕ) (before after : Player M) : Type 0 where
     pub put : Puts held faults old new r part.1
     pub now : OnOk r (playing_of commands after ≡ part.0)
-    pub can : OnOk r (CanPlay commands after)
+    pub can : OnOk r (CanPlay after)
     pub env : OnOk r (after.state.env ≡ before.state.env)
 
 -- the line is one of so many workers'

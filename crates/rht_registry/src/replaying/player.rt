@@ -50,10 +50,10 @@ impl<M: Mix> Player<M> {
     /// An event of a caller: where that is in no call it takes its next command; then it performs
     /// one operation. `None` where the limit stands in the event's place, which ends the replay.
     pub fn event(&mut self, commands: &[(u32, Call)], caller: u32) -> Option<Stepped>
-        requires can { CanPlay commands.now self.old }
+        requires can { CanPlay self.old }
         requires caller { caller < self.old.state.env.geometry.callers }
         ensures event { (playing_of commands.now self.new, result) ≡ event_of M.mix_of (playing_of commands.now self.old) caller }
-        ensures can { CanPlay commands.now self.new }
+        ensures can { CanPlay self.new }
         ensures env { self.new.state.env ≡ self.old.state.env }
     {
         if self.made >= MOST_EVENTS {
@@ -67,11 +67,11 @@ impl<M: Mix> Player<M> {
 
     /// Whether the caller is in no call and has no command left.
     pub fn is_through(&mut self, commands: &[(u32, Call)], caller: u32) -> bool
-        requires can { CanPlay commands.now self.old }
+        requires can { CanPlay self.old }
         requires caller { caller < self.old.state.env.geometry.callers }
         ensures through { result ≡ is_through (playing_of commands.now self.old) caller }
         ensures playing { playing_of commands.now self.new ≡ playing_of commands.now self.old }
-        ensures can { CanPlay commands.now self.new }
+        ensures can { CanPlay self.new }
     {
         if !self.state.local(caller).is_idle() {
             return false;
@@ -81,10 +81,10 @@ impl<M: Mix> Player<M> {
 
     /// Gives the caller its next command, where it is in no call and has one.
     fn ready(&mut self, commands: &[(u32, Call)], caller: u32)
-        requires can { CanPlay commands.now self.old }
+        requires can { CanPlay self.old }
         requires caller { caller < self.old.state.env.geometry.callers }
         ensures playing { playing_of commands.now self.new ≡ readied M.mix_of (playing_of commands.now self.old) caller }
-        ensures can { CanPlay commands.now self.new }
+        ensures can { CanPlay self.new }
         ensures env { self.new.state.env ≡ self.old.state.env }
         ensures made { self.new.made ≡ self.old.made }
     {
@@ -98,12 +98,12 @@ impl<M: Mix> Player<M> {
 
     /// The caller's next command, where it has one. From now on it isn't left any longer.
     fn take(&mut self, commands: &[(u32, Call)], caller: u32) -> Option<Call>
-        requires can { CanPlay commands.now self.old }
+        requires can { CanPlay self.old }
         requires caller { caller < self.old.state.env.geometry.callers }
         ensures taken { Takes (playing_of commands.now self.old) (playing_of commands.now self.new) caller result }
         ensures state { self.new.state ≡ self.old.state }
         ensures made { self.new.made ≡ self.old.made }
-        ensures can { CanPlay commands.now self.new }
+        ensures can { CanPlay self.new }
     {
         let place = self.look(commands, caller);
         if place >= commands.len() {
@@ -116,7 +116,7 @@ impl<M: Mix> Player<M> {
     /// The place of the caller's next command, or one past all commands where it has none. From now
     /// on it is looked for from there.
     fn look(&mut self, commands: &[(u32, Call)], caller: u32) -> usize
-        requires can { CanPlay commands.now self.old }
+        requires can { CanPlay self.old }
         requires caller { caller < self.old.state.env.geometry.callers }
         ensures next { self.new.next.items ≡ slice_set self.old.next.items caller result }
         ensures left { calls_of (caller + 1) (drop (slice_index self.old.next.items caller) commands.now)

@@ -24,7 +24,7 @@ returns-then-place-commands-clause-taken g c =
 
 pub returns-then-place-commands-clause-can : goal.returns-then-place-commands-clause-can
 returns-then-place-commands-clause-can g c =
-    CanPlay-stays c.args.commands.now c.args.self.now c.look-place.new.self c.requires.can
+    CanPlay-stays c.args.self.now c.look-place.new.self c.requires.can
     (ap length c.look-place.ensures.next ∙ length-set c.args.self.now.next.items c.args.caller c.look-place.result)
     (ap (λ (k : Core g.row.M.Denot). k.env) c.look-place.ensures.state)
 
@@ -62,7 +62,7 @@ returns-clause-can g c =
       made = looked.made;
       over = looked.over;
     } in
-    CanPlay-stays c.args.commands.now c.args.self.now after c.requires.can
+    CanPlay-stays c.args.self.now after c.requires.can
     (length-set looked.next.items c.args.caller (place + 1) ∙ ap length c.look-place.ensures.next
     ∙ length-set c.args.self.now.next.items c.args.caller place)
     (ap (λ (k : Core g.row.M.Denot). k.env) c.look-place.ensures.state)
