@@ -77,10 +77,12 @@ fn both<M: Mix + Send + Sync, R: Threads + Wait + Sync>(
     first: Pass<M>,
     second: Pass<M>,
 ) -> ((Pass<M>, Reply), (Pass<M>, Reply))
-    requires first { IsPassOf M.mix_of table.now first × (is_idle first.local ≡ true) }
-    requires second { IsPassOf M.mix_of table.now second × (is_idle second.local ≡ true) }
-    ensures first { IsPassOf M.mix_of table.now result.0.0 × (is_idle result.0.0.local ≡ true) }
-    ensures second { IsPassOf M.mix_of table.now result.1.0 × (is_idle result.1.0.local ≡ true) }
+    requires first { IsPassOf M.mix_of table.now first }
+    requires first_idle { is_idle first.local ≡ true }
+    requires second { IsPassOf M.mix_of table.now second }
+    requires second_idle { is_idle second.local ≡ true }
+    ensures first { IsPassOf M.mix_of table.now result.0.0 }
+    ensures first_idle { is_idle result.0.0.local ≡ true }
 {
     join(
         rt,
@@ -97,14 +99,25 @@ fn all<M: Mix + Send + Sync, R: Threads + Wait + Sync>(
     second: Pass<M>,
     third: Pass<M>,
 ) -> (((Pass<M>, Reply), (Pass<M>, Reply)), (Pass<M>, Reply))
-    requires first { IsPassOf M.mix_of table.now first × (is_idle first.local ≡ true) }
-    requires second { IsPassOf M.mix_of table.now second × (is_idle second.local ≡ true) }
-    requires third { IsPassOf M.mix_of table.now third × (is_idle third.local ≡ true) }
-    ensures { IsPassOf M.mix_of table.now result.0.0.0 × (is_idle result.0.0.0.local ≡ true) }
+    requires first { IsPassOf M.mix_of table.now first }
+    requires first_idle { is_idle first.local ≡ true }
+    requires second { IsPassOf M.mix_of table.now second }
+    requires second_idle { is_idle second.local ≡ true }
+    requires third { IsPassOf M.mix_of table.now third }
+    requires third_idle { is_idle third.local ≡ true }
+    ensures first { IsPassOf M.mix_of table.now result.0.0.0 }
+    ensures first_idle { is_idle result.0.0.0.local ≡ true }
 {
     join(
         rt,
-        move || both(rt, table, first, second),
+        move || -> ((Pass<M>, Reply), (Pass<M>, Reply))
+            requires first { IsPassOf M.mix_of table.now first }
+            requires first_idle { is_idle first.local ≡ true }
+            requires second { IsPassOf M.mix_of table.now second }
+            requires second_idle { is_idle second.local ≡ true }
+            ensures first { IsPassOf M.mix_of table.entry.now result.0.0 }
+            ensures first_idle { is_idle result.0.0.local ≡ true }
+        { both(rt, table, first, second) },
         move || list(rt, table, third),
     )
 }
