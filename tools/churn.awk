@@ -41,7 +41,7 @@ function drawn_call(kind,    port, what) {
   if (what < 76) return "release " port " " 1 + below(2)
   if (what < 84) return "find " port
   if (what < 92) return tidies ? "tidy" : "count"
-  return kind == "listed" ? "all " port : "rebind " port " " 1 + below(2) " " 1 + below(2)
+  return kind == "listed" && below(2) ? "all " port : "rebind " port " " 1 + below(2) " " 1 + below(2)
 }
 
 # The other workers tidy now and then, look up a port in between, and end. The first one waits for them by looking up that port, releases

@@ -69,7 +69,7 @@ function drawn_call(kind, owners_differ, port,    what, old) {
   if (what < 80) return "find " port
   if (what < 84) return "count"
   if (what < 89 && tidies) return "tidy"
-  if (kind == "listed") return "all " port
+  if (kind == "listed" && below(2)) return "all " port
   old = old_owner(port)
   return "rebind " port " " old " " new_owner(port, owners_differ)
 }
@@ -270,8 +270,8 @@ function is_right(worker, i, bound,    call, reply, owners, first, many) {
   }
   if (call[1] == "rebind") {
     if (reply[1] == "nonode") return 1
-    if (owners != call[3]) return reply[1] == "absent"
-    return reply[1] == "rebound" && change(bound, call[2], call[4])
+    if (!is_among(call[3], owners)) return reply[1] == "absent"
+    return reply[1] == "rebound" && change(bound, call[2], with_another(call[3], call[4], owners))
   }
   return 0
 }
@@ -290,6 +290,14 @@ function owners_in(bound, port,    rest) {
 }
 
 function is_among(owner, owners) { return index("," owners ",", "," owner ",") > 0 }
+
+# the owners with a new one in the place of the first that is this one
+function with_another(owner, new, owners,    text, at) {
+  text = "," owners ","
+  at = index(text, "," owner ",")
+  text = substr(text, 1, at) new substr(text, at + length(owner) + 1)
+  return substr(text, 2, length(text) - 2)
+}
 
 # the owners without the first that is this one
 function without_first(owner, owners,    text, at) {

@@ -123,8 +123,8 @@ function plan_others(    port) {
   print 6, "release", port, owner_of(port)
   print 6, "tidy"
   port = bound_port()
-  if (table == "lists") print 7, "release", asked_port, owner_of(asked_port)
-  else print 7, "rebind", port, owner_of(port), 83
+  if (table == "lists") port = asked_port
+  print 7, "rebind", port, owner_of(port), 83
   print 8, "all", asked_port
   print 8, "all", bound_port()
   print 9, "find", asked_port

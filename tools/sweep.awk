@@ -54,7 +54,7 @@ function drawn_call(worker,    what, port, owner) {
   if (what < 70) return "tidy"
   if (what < 85) return "work"
   if (what < 92 && walks) return "walk"
-  if (kind == "listed") return "all " port
+  if (kind == "listed" && below(2)) return "all " port
   return "rebind " port " " (owners_differ ? 1 + below(owners_so_far) : 1 + below(3)) " " owner
 }
 
@@ -456,16 +456,12 @@ function effect(was, asked,    owners, many, i, j) {
     gsub(/,/, " ", was)
     return "list" (many ? " " was : "")
   }
-  if (asked[1] == "rebind") {
-    if (many != 1 || owners[1] != asked[3]) return "absent"
-    after = asked[4]
-    return "rebound"
-  }
   for (i = 1; i <= many && owners[i] != asked[3]; i++) {}
   if (i > many) return "absent"
+  owners[i] = asked[1] == "rebind" ? asked[4] : ""
   after = ""
-  for (j = 1; j <= many; j++) if (j != i) after = after (after == "" ? "" : ",") owners[j]
-  return "released"
+  for (j = 1; j <= many; j++) if (owners[j] != "") after = after (after == "" ? "" : ",") owners[j]
+  return asked[1] == "rebind" ? "rebound" : "released"
 }
 
 # ---- Calls --------------------------------------------------------------------------------------

@@ -28,9 +28,12 @@ const OTHER: u32 = 1 << 20;
 /// A thread has no more ports than these, which is as many as a table can have nodes.
 pub const MOST: u32 = 65_536;
 
-/// The ports of a thread. No other thread releases one of them, or binds or releases their others.
+/// The ports of a thread, all of one net. No other thread releases one of them, or binds or releases their
+/// others.
 #[derive(Clone, Copy)]
 pub struct Ports {
+    /// Their net.
+    pub net: u16,
     /// The number of the first one.
     pub first: u32,
     /// How many there are, side by side.
@@ -47,12 +50,22 @@ impl Ports {
         self.first.wrapping_add(index)
     }
 
+    /// The port of their net with this number.
+    #[inline(always)]
+    pub fn with(self, number: u32) -> Port {
+        Port {
+            net: self.net,
+            number,
+        }
+    }
+
     /// So many of them, of which the first one stands so far behind the first of all.
     fn part(self, index: u32, count: u32) -> Ports
         requires { count ≤ self.count }
         ensures { result.count ≡ count }
     {
         Ports {
+            net: self.net,
             first: self.at(index),
             count,
         }
@@ -129,7 +142,7 @@ fn lookups<M: Mix>(table: &Table<M>, pass: &mut Pass<M>, ports: Ports, asked: As
     };
     let mut right = 0u64;
     for index in 0..ports.count {
-        let reply = table.find(pass, Port::plain(ports.at(index) | other));
+        let reply = table.find(pass, ports.with(ports.at(index) | other));
         right += u64::from(is_answer(asked, reply));
     }
     right
@@ -194,7 +207,7 @@ fn twenty<M: Mix, R: Wait>(
     requires block { block * 20 + 20 ≤ ports.count }
     ensures made { HasMade M.mix_of table.now is_done 20 result pass.old pass.new }
 {
-    let other = Port::plain(ports.first | OTHER);
+    let other = ports.with(ports.first | OTHER);
     let bound = table.bind(rt, pass, other, OWNER);
     let released = table.release(rt, pass, other, OWNER);
     let found = lookups(table, pass, ports.part(block * 20 + 2, 18), Asked::Own);
@@ -209,7 +222,7 @@ fn churn<M: Mix, R: Wait>(rt: &R, table: &Table<M>, pass: &mut Pass<M>, ports: P
 {
     let mut right = 0u64;
     for index in 0..ports.count {
-        let other = Port::plain(ports.at(index) | OTHER);
+        let other = ports.with(ports.at(index) | OTHER);
         let bound = table.bind(rt, pass, other, OWNER);
         let released = table.release(rt, pass, other, OWNER);
         right += u64::from(is_done(bound)) + u64::from(is_done(released));
@@ -225,7 +238,7 @@ pub fn binds<M: Mix, R: Wait>(rt: &R, table: &Table<M>, pass: &mut Pass<M>, port
 {
     let mut right = 0u64;
     for index in 0..ports.count {
-        let reply = table.bind(rt, pass, Port::plain(ports.at(index)), OWNER);
+        let reply = table.bind(rt, pass, ports.with(ports.at(index)), OWNER);
         right += u64::from(is_bound(reply));
     }
     right
@@ -240,7 +253,7 @@ fn growth<M: Mix, R: Wait>(rt: &R, table: &Table<M>, pass: &mut Pass<M>, ports: 
     ensures few { result ≡ ports.count }
 {
     for index in 0..ports.count {
-        bind_and_grow(rt, table, pass, Port::plain(ports.at(index)));
+        bind_and_grow(rt, table, pass, ports.with(ports.at(index)));
     }
     u64::from(ports.count)
 }

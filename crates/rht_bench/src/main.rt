@@ -3,9 +3,9 @@
 //! Stands on `rht_run`, and uses only its public calls. Standard output has how many calls had the
 //! reply that they must have, which no schedule of the threads changes; standard error has the
 //! nanoseconds a call, and behind them how often the table was resized beside the calls and the longest
-//! look-up. Its words are the scale, the name of a row and a number of threads; without them
-//! it measures little, or all rows. `tools/dev bench` runs it beside `bench/floor.c`, which does the
-//! same in C and has the same words and rows.
+//! look-up. Its words are the scale, the name of a row, a number of threads and the net of the ports; without
+//! them it measures little, or all rows, on ports of net 0. `tools/dev bench` runs it beside
+//! `bench/floor.c`, which does the same in C and has the same rows, and these words but for the net.
 //! Read `src/rows.rt` first, which says what a row is, and then `src/loops.rt`, which has what is
 //! timed.
 #![tactic(auto)]
@@ -29,17 +29,21 @@ use std::{env, io};
 
 fn main(rt: HostRuntime) -> io::Result<()> {
     let mut args = env::args(&rt)?.skip(1);
-    let scale = match args.next() {
-        Some(times) => Scale::large(number_of(&times)?),
+    let times = args.next();
+    let name = args.next();
+    let threads = match args.next() {
+        Some(threads) => Some(number_of(&threads)?),
+        None => None,
+    };
+    let net = match args.next() {
+        Some(net) => net_of(&net)?,
+        None => 0,
+    };
+    let scale = match times {
+        Some(times) => Scale::large(number_of(&times)?, net),
         None => Scale::small(),
     };
-    let wanted = Wanted {
-        name: args.next(),
-        threads: match args.next() {
-            Some(threads) => Some(number_of(&threads)?),
-            None => None,
-        },
-    };
+    let wanted = Wanted { name, threads };
     for workload in WORKLOADS {
         print_workload(&rt, rt.alloc(), scale, workload, &wanted)?;
     }
@@ -50,6 +54,14 @@ fn main(rt: HostRuntime) -> io::Result<()> {
 fn number_of(word: &str) -> io::Result<u32> {
     match word.parse::<u32>() {
         Ok(number) => Ok(number),
+        Err(_) => Err(io::Error::from(io::ErrorKind::InvalidInput)),
+    }
+}
+
+/// A word as a net. One that is none is refused.
+fn net_of(word: &str) -> io::Result<u16> {
+    match word.parse::<u16>() {
+        Ok(net) => Ok(net),
         Err(_) => Err(io::Error::from(io::ErrorKind::InvalidInput)),
     }
 }

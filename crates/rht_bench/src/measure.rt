@@ -132,6 +132,7 @@ fn resizer<M: Mix>(table: &Table<M>, passes: &mut Vec<Pass<M>>, row: Row) -> Opt
     }
     let pass = passes.pop()?;
     let ports = Ports {
+        net: row.net,
         first: row.ports,
         count: row.ports.saturating_mul(2).min(MOST),
     };
@@ -157,7 +158,11 @@ fn share_out<M: Mix, R: Wait>(
     let mut first = 0u32;
     let mut jobs = Vec::new(alloc);
     while let Some(pass) = passes.pop() {
-        let ports = Ports { first, count };
+        let ports = Ports {
+            net: row.net,
+            first,
+            count,
+        };
         jobs.push(prepared(rt, table, pass, ports, row.workload))?;
         first = first.wrapping_add(step);
     }

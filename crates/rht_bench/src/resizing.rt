@@ -12,7 +12,6 @@ use crate::loops::{OWNER, Ports};
 use rht_model::Reply;
 use rht_policy::Mix;
 use rht_run::{Pass, Table};
-use rht_words::Port;
 use std::sync::Wait;
 
 /// So many turns are made, also where the others have done their calls before.
@@ -69,7 +68,7 @@ fn bind_on<M: Mix, R: Wait>(
     ensures bound { result ≤ ports.count }
 {
     for index in bound..ports.count {
-        let reply = table.bind(rt, pass, Port::plain(ports.at(index)), OWNER);
+        let reply = table.bind(rt, pass, ports.with(ports.at(index)), OWNER);
         if reply != (Reply::Bound { kick: false }) {
             return index + 1;
         }
@@ -93,7 +92,7 @@ fn release_on<M: Mix, R: Wait>(
     ensures bound { result ≤ ports.count }
 {
     for index in (0..bound).rev() {
-        let reply = table.release(rt, pass, Port::plain(ports.at(index)), OWNER);
+        let reply = table.release(rt, pass, ports.with(ports.at(index)), OWNER);
         if reply != (Reply::Released { kick: false }) {
             return index;
         }

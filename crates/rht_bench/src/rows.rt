@@ -139,6 +139,8 @@ pub struct Scale {
     /// How many times as much is measured. With 0 each thread goes once through its ports, which is
     /// enough where instructions are counted.
     pub times: u32,
+    /// The net of the ports.
+    pub net: u16,
 }
 
 /// One row.
@@ -148,6 +150,8 @@ pub struct Row {
     pub workload: Workload,
     /// Over how many ports, which the threads share out among them.
     pub ports: u32,
+    /// The net of these ports.
+    pub net: u16,
     /// By how many threads.
     pub threads: u32,
     /// How often each thread goes through its ports in one table.
@@ -167,18 +171,20 @@ impl Scale {
             nodes: 4_096,
             pages: 64,
             times: 0,
+            net: 0,
         }
     }
 
-    /// Some hundred thousand calls a row, and so many times that. With 8 a row of four threads takes half
-    /// a second or so.
-    pub fn large(times: u32) -> Scale {
+    /// Some hundred thousand calls a row, and so many times that, on ports of this net. With 8 a row of
+    /// four threads takes half a second or so.
+    pub fn large(times: u32, net: u16) -> Scale {
         Scale {
             few: 1_000,
             many: 16_000,
             nodes: 65_536,
             pages: 2_048,
             times,
+            net,
         }
     }
 
@@ -209,6 +215,7 @@ impl Scale {
         Row {
             workload,
             ports,
+            net: self.net,
             threads,
             rounds,
             tables,

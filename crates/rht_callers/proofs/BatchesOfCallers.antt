@@ -137,7 +137,7 @@ module _ (M : Type 0) where
       (λ call machine. So batch → ((own : BatchModel) → batch ≡ Some own → So (Some (begun own).0))
       → So (batch_room machine (batch_beside machine batch)))
       (λ port is tidies. is) (λ port owner once is tidies. is) (λ port is tidies. is) (λ port owner is tidies. is)
-      (λ port owner new single is tidies. is) (λ is tidies. is) (λ is tidies. is)
+      (λ port owner new is tidies. is) (λ is tidies. is) (λ is tidies. is)
       (λ own has is tidies. tidies own has) (λ from limit is tidies. is)
 
   -- ---- an operation

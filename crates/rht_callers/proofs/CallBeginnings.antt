@@ -7,14 +7,12 @@ use Rattle.rht_model.specs.declared.history.Call.{Call}
 use Rattle.rht_model.specs.declared.history.Call.TheVariants.{Bind, Find, Release, Rebind, All, Walk, Work, Tidy, Count}
 use Rattle.rht_model.specs.declared.history.Cursor.{Cursor}
 use Rattle.rht_find.specs.Find.{find_new}
-use Rattle.rht_words.specs.declared.config.Kind.{Kind}
-use Rattle.rht_words.specs.declared.config.Kind.TheVariants.{Single, Listed}
 use Rattle.rht_bind.specs.Bind.{bind_new}
 use Rattle.rht_release.specs.All.{all_new}
 use Rattle.rht_callers.specs.declared.local.Local.{Local}
 use Rattle.rht_callers.specs.declared.local.Doing.{Doing}
 use Rattle.rht_callers.specs.declared.local.Doing.TheVariants.{Idle, Finding, Binding, Releasing, Rebinding, Listing, Working, Counting, Tidying, Walking}
-use Rattle.rht_callers.specs.Locals.{room_for_nodes, does_nothing, is_idle, machine_of, rebinding_of, tidying_of, doing_plan, plan_of}
+use Rattle.rht_callers.specs.Locals.{room_for_nodes, does_nothing, is_idle, machine_of, tidying_of, doing_plan, plan_of}
 use Rattle.rht_release.specs.Release.{release_new}
 use Rattle.rht_release.specs.Rebind.{rebind_new}
 use Rattle.rht_move.specs.Work.{work_new}
@@ -30,8 +28,7 @@ module _ (M : Type 0) where
       (bind : (port owner : ℕ) (once : Bool) → So (Bind port owner once) (Binding (bind_new env c port owner once)))
       (list : (port : ℕ) → So (All port) (Listing (all_new env c port (room_for_nodes env))))
       (release : (port owner : ℕ) → So (Release port owner) (Releasing (release_new env c port owner)))
-      (rebind : (port owner new : ℕ) → env.config.kind ≡ Single
-      → So (Rebind port owner new) (Rebinding (rebind_new env c port owner new)))
+      (rebind : (port owner new : ℕ) → So (Rebind port owner new) (Rebinding (rebind_new env c port owner new)))
       (work : So Work (Working (work_new env c)))
       (count : So Count (Counting (record { env = env })))
       (tidy : (own : BatchModel) → batch ≡ Some own → So Tidy (Tidying (tidy_new env.geometry own)))
@@ -42,11 +39,6 @@ module _ (M : Type 0) where
       BeginsSo call None = Unit {0}
       BeginsSo call (Some machine) = So call machine
 
-      rebinding-so : (port owner new : ℕ) (kind : Kind) → env.config.kind ≡ kind
-          → BeginsSo (Rebind port owner new) (rebinding_of env c port owner new kind)
-      rebinding-so port owner new Single is = rebind port owner new is
-      rebinding-so port owner new Listed is = tt
-
       tidying-so : (has : Option BatchModel) → batch ≡ has → BeginsSo Tidy (tidying_of env has)
       tidying-so None is = tt
       tidying-so (Some own) is = tidy own is
@@ -56,7 +48,7 @@ module _ (M : Type 0) where
       machine-so (Bind port owner once) = bind port owner once
       machine-so (All port) = list port
       machine-so (Release port owner) = release port owner
-      machine-so (Rebind port owner new) = rebinding-so port owner new env.config.kind refl
+      machine-so (Rebind port owner new) = rebind port owner new
       machine-so Work = work
       machine-so Tidy = tidying-so batch refl
       machine-so Count = count

@@ -76,7 +76,7 @@ module _ (M : Type 0) where
       (λ call machine. (room : Kept ℕ) → room.limit ≡ env.geometry.nodes
       → (owners_room machine (owners_beside machine room)).limit ≡ env.geometry.nodes)
       (λ port room is. is) (λ port owner once room is. is) (λ port room is. refl) (λ port owner room is. is)
-      (λ port owner new single room is. is) (λ room is. is) (λ room is. is) (λ own has room is. is)
+      (λ port owner new room is. is) (λ room is. is) (λ room is. is) (λ own has room is. is)
       (λ from limit room is. is)
 
   -- whose own room is empty then
@@ -151,7 +151,7 @@ module _ (M : Type 0) where
       (λ call machine. (room : Pairs) → room.limit ≡ env.geometry.nodes
       → (pairs_room machine (pairs_beside machine room)).limit ≡ env.geometry.nodes)
       (λ port room is. is) (λ port owner once room is. is) (λ port room is. is) (λ port owner room is. is)
-      (λ port owner new single room is. is) (λ room is. is) (λ room is. is) (λ own has room is. is)
+      (λ port owner new room is. is) (λ room is. is) (λ room is. is) (λ own has room is. is)
       (λ from limit room is. refl)
 
   -- whose own room is empty then

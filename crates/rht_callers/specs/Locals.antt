@@ -12,8 +12,6 @@ use Rattle.rht_model.specs.Endings.{Ending}
 use Rattle.rht_find.specs.Find.{find_new, find_plan, find_after}
 use Rattle.rht_bind.specs.Bind.{bind_new, bind_plan, bind_after}
 use Rattle.rht_release.specs.All.{AllModel, all_new, all_plan, all_after}
-use Rattle.rht_words.specs.declared.config.Kind.{Kind}
-use Rattle.rht_words.specs.declared.config.Kind.TheVariants.{Single, Listed}
 use Rattle.rht_release.specs.Release.{release_new, release_plan, release_after}
 use Rattle.rht_release.specs.Rebind.{rebind_new, rebind_plan, rebind_after}
 use Rattle.rht_move.specs.Work.{work_new, work_plan, work_after}
@@ -61,23 +59,18 @@ module _ {M : Type 0} where
   does_nothing (Tidying m) = false
   does_nothing (Walking m) = false
 
-  -- a rebind is built for tables of one owner each alone
-  abbrev pub rebinding_of : Env → ℕ → ℕ → ℕ → ℕ → Kind → Option (Doing M)
-  rebinding_of env caller port owner new Single = Some (Rebinding (rebind_new env caller port owner new))
-  rebinding_of env caller port owner new Listed = None
-
   -- a tidying begins with its caller's batch
   abbrev pub tidying_of : Env → Option BatchModel → Option (Doing M)
   tidying_of env None = None
   tidying_of env (Some batch) = Some (Tidying (tidy_new env.geometry batch))
 
-  -- what a caller does that has this batch and is given a call; none where there is no such machine yet
+  -- what a caller does that has this batch and is given a call; none for a tidying without one
   abbrev pub machine_of : Env → ℕ → Option BatchModel → Call → Option (Doing M)
   machine_of env caller batch (Find port) = Some (Finding (find_new env caller port))
   machine_of env caller batch (Bind port owner once) = Some (Binding (bind_new env caller port owner once))
   machine_of env caller batch (All port) = Some (Listing (all_new env caller port (room_for_nodes env)))
   machine_of env caller batch (Release port owner) = Some (Releasing (release_new env caller port owner))
-  machine_of env caller batch (Rebind port owner new) = rebinding_of env caller port owner new env.config.kind
+  machine_of env caller batch (Rebind port owner new) = Some (Rebinding (rebind_new env caller port owner new))
   machine_of env caller batch Work = Some (Working (work_new env caller))
   machine_of env caller batch Tidy = tidying_of env batch
   machine_of env caller batch (Walk from limit) = Some (Walking (walk_new env caller from limit (room_for_nodes env)))

@@ -16,7 +16,7 @@ use rht_move::Work;
 use rht_policy::Mix;
 use rht_release::{All, Rebind, Release};
 use rht_walk::Walk;
-use rht_words::{Env, Kind, Next, Op, Port};
+use rht_words::{Env, Next, Op, Port};
 use std::alloc::{AllocError, Global};
 
 /// What a caller is doing: nothing, or one of the machines.
@@ -206,7 +206,7 @@ impl<M: Mix> Local<M> {
     }
 
     /// Begins a call, and empties both rooms; no memory is taken or given back. It does nothing for a
-    /// call of which there is no machine yet: `rebind` in a table of lists.
+    /// tidying without a batch, which no idle caller lacks.
     pub fn begin(&mut self, env: Env, caller: u32, call: Call)
         requires owners { self.old.owners.limit ≡ env.geometry.nodes }
         requires pairs { self.old.pairs.limit ≡ env.geometry.nodes }
@@ -223,7 +223,7 @@ impl<M: Mix> Local<M> {
             Call::Release { port, owner } => {
                 Doing::Releasing(Release::new(env, caller, port, owner))
             }
-            Call::Rebind { port, owner, new } if env.config.kind == Kind::Single => {
+            Call::Rebind { port, owner, new } => {
                 Doing::Rebinding(Rebind::new(env, caller, port, owner, new))
             }
             Call::Work => Doing::Working(Work::new(env, caller)),
@@ -235,7 +235,6 @@ impl<M: Mix> Local<M> {
             Call::Walk { from, limit } => {
                 Doing::Walking(Walk::new(env, caller, from, limit, self.pairs.take()))
             }
-            Call::Rebind { .. } => return,
         };
         self.owners.clear();
         self.pairs.clear();

@@ -1,4 +1,4 @@
--- what a release takes out of a port's owners
+-- what a release and a rebind make of a port's owners
 pub mod OwnerLists
 -- a worker's commands among those of all
 pub mod WorkersCommands

@@ -89,17 +89,20 @@ impl OwnerList {
         front.len() <= owners.len() && is_split(owners, front, back)
     }
 
-    /// Puts a new owner in the place of this one, where this is the only one, and tells whether it
-    /// was.
+    /// Puts a new owner in the place of the first one that is this one, and tells whether there was
+    /// one.
     pub fn exchange(&mut self, owner: u32, new: u32) -> bool
-        ensures only { IsTrue result ↔ (self.old ≡ owner ∷ []) }
+        ensures found { result ≡ list_any (λ o. o == owner) self.old }
         ensures owners { self.new ≡ owners_rebound owner new self.old }
+        ensures bound { self.old ≢ [] → self.new ≢ [] }
     {
-        if !self.is_only(owner) {
-            return false;
+        match self.place(owner) {
+            Some(place) => {
+                self.owners[place] = new;
+                true
+            }
+            None => false,
         }
-        self.owners[0] = new;
-        true
     }
 
     /// The number of owners.

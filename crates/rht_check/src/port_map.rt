@@ -122,7 +122,7 @@ impl PortMap {
         }
     }
 
-    /// Puts a new owner in the place of the port's only one.
+    /// Puts a new owner in the place of the port's first one that is this one.
     pub fn rebind(&mut self, port: Port, owner: u32, new: u32) -> Reply
         ensures reply { result ≡ rebind_reply owner (owners_at self.old port) }
         ensures after { ChangesTo self.old self.new port (owners_rebound owner new (owners_at self.old port)) }

@@ -48,12 +48,13 @@ fn each_verdict_is_told(rt: HostRuntime) -> Result<(), Fail> {
 
 #[test]
 fn each_reply_is_read(rt: HostRuntime) -> Result<(), Fail> {
-    // In a table of lists: two binds, a list, releases of an owner that is there and of one that
-    // isn't, and a bind that is refused.
-    let commands =
-        "table listed\n1 bind 80 1\n1 bind 80 2\n1 all 80\n1 release 80 1\n1 release 80 9\n";
-    let claims = "history\n1: bound\n1: bound\n1: list 2 1\n1: released\n1: absent\n";
-    let text = format!(in rt.alloc(); "{commands}{claims}")?;
+    // In a table of lists: two binds, a list, and rebinds and releases of an owner that is there and
+    // of one that isn't.
+    let commands = "table listed\n1 bind 80 1\n1 bind 80 2\n1 all 80\n";
+    let changes = "1 rebind 80 1 3\n1 rebind 80 1 4\n1 release 80 3\n1 release 80 9\n";
+    let claims = "history\n1: bound\n1: bound\n1: list 2 1\n";
+    let changed = "1: rebound\n1: absent\n1: released\n1: absent\n";
+    let text = format!(in rt.alloc(); "{commands}{changes}{claims}{changed}")?;
     assert_judged(&rt, rt.alloc(), &text, "legal\nport 80: 2\nkeys 1\n");
     // A refusal is right wherever the call has it, and changes nothing.
     let refusals: [&str; 4] = [

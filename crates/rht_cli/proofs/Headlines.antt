@@ -10,7 +10,6 @@ use Rattle.rht_model.specs.Endings.{Ending}
 use Rattle.rht_model.specs.Histories.{IsLegal, bindings_left}
 use Rattle.rht_model.specs.Listing.{Lists}
 use Rattle.rht_model.specs.Multimap.{unbound}
-use Rattle.rht_core.specs.Runs.{IsAdmitted}
 use Rattle.rht_core.specs.Serving.{IsServedRun}
 use Rattle.rht_core.specs.ToldHistories.{entries_by, entries_of_finished}
 use Rattle.rht_core.proofs.Finding.LookupLaws.{finds_what_stays}
@@ -30,10 +29,9 @@ finds_and_spares : (config : Config) (auto : Bool) (commands : List (ℕ × Call
     → FindsAndSpares (tag_of config.hash) (mix_named config) such.env such.events
 finds_and_spares config auto commands endings closed such =
     let M : Type 0 = tag_of config.hash in
-    let admitted = subst (λ (k : Config). IsAdmitted k.kind such.events) (sym such.config_same) such.admitted in
     record {
-      found = λ c. finds_what_stays M (mix_named config) such.env such.events c admitted;
-      safe = safe M (mix_named config) such.env such.events admitted;
+      found = λ c. finds_what_stays M (mix_named config) such.env such.events c such.admitted;
+      safe = safe M (mix_named config) such.env such.events such.admitted;
     }
 
 Headline-printed : (left left_after held held_after : Option (List ℕ)) (text : List ℕ) → Prints Run left left_after text

@@ -47,7 +47,7 @@ module _ (M : Type 0) (mix : ℕ → ℕ → ℕ → ℕ) where
   abbrev pub Alone : Type 0
   Alone = (env : Env) (before : List Event) (c port : ℕ) (call : Call) (count : ℕ) (past : Past)
       → port_of call ≡ Some port
-      → IsAdmitted env.config.kind (before ++ call_events c call count)
+      → IsAdmitted (before ++ call_events c call count)
       → IsQuiet env before
       → ((traced_of {M = M} mix env (before ++ call_events c call count)).traces c).past ≡ ((traced_of {M = M} mix env before).traces c).past ++ past ∷ []
       → MeetsAlone env before c call count past

@@ -351,7 +351,7 @@ module _ (M : Type 0) (mix : ℕ → ℕ → ℕ → ℕ) (env : Env) (events : 
 -- in every run each operation changes what slots' words say of tables rightly
 abbrev pub Attached : (M : Type 0) → (ℕ → ℕ → ℕ → ℕ) → Type 0
 Attached M mix =
-    (env : Env) (events : List Event) (c : ℕ) → IsAdmitted env.config.kind events
+    (env : Env) (events : List Event) (c : ℕ) → IsAdmitted events
     → HasAttachedRightly M mix env events c (traced_of mix env events)
 
 -- the call has kept section words wherever it retired a table
@@ -361,5 +361,5 @@ KeepsWhereRetired g past = (slot : ℕ) → slot < 8 → Any (RetiresSlot g slot
 -- in every run each call that has ended has done so
 abbrev pub KeepsAtRetiring : (M : Type 0) → (ℕ → ℕ → ℕ → ℕ) → Type 0
 KeepsAtRetiring M mix =
-    (env : Env) (events : List Event) (c : ℕ) → IsAdmitted env.config.kind events
+    (env : Env) (events : List Event) (c : ℕ) → IsAdmitted events
     → AllByRecursion (KeepsWhereRetired env.geometry) ((traced_of {M = M} mix env events).traces c).past

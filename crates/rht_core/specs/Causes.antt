@@ -175,4 +175,4 @@ module _ (M : Type 0) (mix : ℕ → ℕ → ℕ → ℕ) where
   -- in every run each call that has ended has a reply with its cause
   abbrev pub Causes : Type 0
   Causes =
-      (env : Env) (events : List Event) (c : ℕ) → IsAdmitted env.config.kind events → AllByRecursion (HasCause env events c) ((traced_of {M = M} mix env events).traces c).past
+      (env : Env) (events : List Event) (c : ℕ) → IsAdmitted events → AllByRecursion (HasCause env events c) ((traced_of {M = M} mix env events).traces c).past

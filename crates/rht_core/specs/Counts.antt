@@ -220,17 +220,17 @@ module _ (M : Type 0) (mix : ℕ → ℕ → ℕ → ℕ) where
 
   -- in every run the count of ports counts
   abbrev pub Counted : Type 0
-  Counted = (env : Env) (events : List Event) → IsAdmitted env.config.kind events → IsCounted env events
+  Counted = (env : Env) (events : List Event) → IsAdmitted events → IsCounted env events
 
   -- in every run the table is at rest while nobody is in a call
   abbrev pub AtRest : Type 0
   AtRest =
-      (env : Env) (events : List Event) → IsAdmitted env.config.kind events → IsQuiet M mix env events
+      (env : Env) (events : List Event) → IsAdmitted events → IsQuiet M mix env events
       → let w : World M = run_of mix env events in IsAtRest env w.core (taken_out w) (given_back w)
 
   -- in every run, whoever else is in a call, a caller that is in none has as many nodes in its batch as its calls took out and didn't give back
   abbrev pub OwnBatches : Type 0
   OwnBatches =
-      (env : Env) (events : List Event) (c : ℕ) → IsAdmitted env.config.kind events
+      (env : Env) (events : List Event) (c : ℕ) → IsAdmitted events
       → let w : World M = run_of mix env events in
       is_idle (local_of w.core c) ≡ true → length (in_batch w.core c) + given_back_by w c ≡ taken_out_by w c

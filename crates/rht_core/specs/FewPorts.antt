@@ -92,7 +92,7 @@ module _ (M : Type 0) (mix : ℕ → ℕ → ℕ → ℕ) where
   -- in every run with few ports the first table stays alone
   abbrev pub FewPorts : Type 0
   FewPorts =
-      (env : Env) (events : List Event) → IsAdmitted env.config.kind events
+      (env : Env) (events : List Event) → IsAdmitted events
       → let w : World M = run_of mix env events in HasFewPorts env w → StaysWithFirst env w
 
   -- The table has one caller, begins with 16 buckets or more and doesn't shrink, and fewer than 16 ports are bound after each event.
@@ -105,6 +105,6 @@ module _ (M : Type 0) (mix : ℕ → ℕ → ℕ → ℕ) where
   -- in every such run no bind was refused but for want of a node
   abbrev pub OneCaller : Type 0
   OneCaller =
-      (env : Env) (events : List Event) (c : ℕ) → IsAdmitted env.config.kind events → IsForOne env events
+      (env : Env) (events : List Event) (c : ℕ) → IsAdmitted events → IsForOne env events
       → let w : World M = run_of mix env events in
       AllByRecursion (λ (done : Finished). IsBindTaken done.call done.reply) (w.books c).finished

@@ -13,7 +13,7 @@ module _ (M : Type 0) (mix : ℕ → ℕ → ℕ → ℕ) where
   -- in every run each word of a free page is 0, whether the page was a table's before or never one
   abbrev pub AreFreePagesBlank : Type 0
   AreFreePagesBlank =
-      (env : Env) (events : List Event) (page index : ℕ) → IsAdmitted env.config.kind events
+      (env : Env) (events : List Event) (page index : ℕ) → IsAdmitted events
       → page < env.geometry.pages → index < 64
       → let core : Core M = (run_of mix env events).core in
       IsFreeThing env.geometry core.words (PageAt page)
@@ -23,7 +23,7 @@ module _ (M : Type 0) (mix : ℕ → ℕ → ℕ → ℕ) where
   -- none such
   abbrev pub AreFreeSlotsUnled : Type 0
   AreFreeSlotsUnled =
-      (env : Env) (events : List Event) (c front slot : ℕ) → IsAdmitted env.config.kind events
+      (env : Env) (events : List Event) (c front slot : ℕ) → IsAdmitted events
       → c < env.geometry.callers
       → let core : Core M = (run_of mix env events).core in
       IsReading env.geometry core.words c

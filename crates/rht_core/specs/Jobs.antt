@@ -42,8 +42,6 @@ use Rattle.rht_walk.specs.declared.walk.WalkAt.{WalkAt}
 use Rattle.rht_walk.specs.declared.walk.WalkAt.TheVariants as walks_at
 use Rattle.rht_callers.specs.declared.local.Doing.{Doing}
 use Rattle.rht_callers.specs.declared.local.Doing.TheVariants.{Idle, Finding, Binding, Releasing, Rebinding, Listing, Working, Counting, Tidying, Walking}
-use Rattle.rht_words.specs.declared.config.Kind.{Kind}
-use Rattle.rht_words.specs.declared.config.Kind.TheVariants.{Single, Listed}
 use Rattle.rht_release.specs.Release as release
 use Rattle.rht_release.specs.ReleaseHeld.{held_of_release}
 use Rattle.rht_release.specs.declared.release.ReleaseAt.{ReleaseAt}
@@ -82,11 +80,7 @@ call_of counts = Count
 abbrev pub tidying : BatchModel × TidyAt → Job
 tidying at = tidies at.0 at.1
 
--- the job with which a call begins; none for a call of which there is no machine yet
-abbrev pub first_rebind : Env → ℕ → ℕ → ℕ → Kind → Option Job
-first_rebind env port owner new Single = Some (rebinds port owner new (rebind.first_state env port new))
-first_rebind env port owner new Listed = None
-
+-- the job with which a call begins; none for a tidying without a batch
 abbrev pub first_tidy : Option BatchModel → Option Job
 first_tidy None = None
 first_tidy (Some batch) = Some (tidying (tidy.begun batch))
@@ -97,7 +91,7 @@ first_job env batch (Find port) = Some (finds port Opening)
 first_job env batch (Bind port owner once) = Some (binds port owner once (bind.first_state env port owner))
 first_job env batch (All port) = Some (lists port (room_for_nodes env) alls.Opening)
 first_job env batch (Release port owner) = Some (releases port owner releasing.Opening)
-first_job env batch (Rebind port owner new) = first_rebind env port owner new env.config.kind
+first_job env batch (Rebind port owner new) = Some (rebinds port owner new (rebind.first_state env port new))
 first_job env batch (Walk from limit) = Some (walks from limit (room_for_nodes env) walks_at.Opening)
 first_job env batch Work = Some (works works_at.WorkLock)
 first_job env batch Tidy = first_tidy batch

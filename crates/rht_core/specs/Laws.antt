@@ -153,18 +153,18 @@ IsOfCaller (Step c) = Unit {0}
 module _ (M : Type 0) (mix : ℕ → ℕ → ℕ → ℕ) where
   -- a run followed by one more event is a run, and its world is the old one changed by that event
   pub record IsOneMore (env : Env) (events : List Event) (event : Event) : Type 0 where
-    pub admitted : IsAdmitted env.config.kind (events ++ event ∷ [])
+    pub admitted : IsAdmitted (events ++ event ∷ [])
     pub world : ◌≡◌ {A = World M} (run_of mix env (events ++ event ∷ [])) (world_step mix (run_of mix env events) event)
 
   abbrev pub Extends : Type 0
   Extends =
       (env : Env) (events : List Event) (event : Event)
-      → IsAdmitted env.config.kind events → IsAdmittedEvent env.config.kind event → IsOneMore env events event
+      → IsAdmitted events → IsAdmittedEvent event → IsOneMore env events event
 
   -- in every run all that callers name is in range
   abbrev pub InRange : Type 0
   InRange =
-      (env : Env) (events : List Event) → IsAdmitted env.config.kind events
+      (env : Env) (events : List Event) → IsAdmitted events
       → IsInRange {M = M} env (run_of mix env events).core
 
   -- an event leaves the word of the enrolled callers, and how many there are
@@ -178,26 +178,26 @@ module _ (M : Type 0) (mix : ℕ → ℕ → ℕ → ℕ) where
   abbrev pub Enrolled : Type 0
   Enrolled =
       (env : Env) (events : List Event) (event : Event)
-      → IsAdmitted env.config.kind events → IsAdmittedEvent env.config.kind event → IsOfCaller event
+      → IsAdmitted events → IsAdmittedEvent event → IsOfCaller event
       → IsEnrolledKept (run_of mix env events) (run_of mix env (events ++ event ∷ []))
 
   -- in every run each word has 64 bits
   abbrev pub WordsFit : Type 0
   WordsFit =
-      (env : Env) (events : List Event) → IsAdmitted env.config.kind events
+      (env : Env) (events : List Event) → IsAdmitted events
       → AllByRecursion IsWord (run_of {M = M} mix env events).core.words
 
   -- in every run a caller that isn't enrolled is in no call and has made none
   abbrev pub NotEnrolled : Type 0
   NotEnrolled =
-      (env : Env) (events : List Event) → IsAdmitted env.config.kind events
+      (env : Env) (events : List Event) → IsAdmitted events
       → let w : World M = run_of mix env events in
       (c : ℕ) → w.core.enrolled ≤ c → view_of w c ≡ record { local = fresh env; book = new_book }
 
   -- in every run each call that has ended has a reply of its kind
   abbrev pub Replies : Type 0
   Replies =
-      (env : Env) (events : List Event) → IsAdmitted env.config.kind events
+      (env : Env) (events : List Event) → IsAdmitted events
       → let w : World M = run_of mix env events in
       (c : ℕ) → AnswersIn env c (local_of w.core c) (w.books c)
 
@@ -210,7 +210,7 @@ module _ (M : Type 0) (mix : ℕ → ℕ → ℕ → ℕ) where
   -- in every run the traces remember each call
   abbrev pub Remembers : Type 0
   Remembers =
-      (env : Env) (events : List Event) → IsAdmitted env.config.kind events
+      (env : Env) (events : List Event) → IsAdmitted events
       → IsTraced env events (traced_of mix env events)
 
   -- the step is one of the run's events; this caller planned its operation there, and it found its old
@@ -247,7 +247,7 @@ module _ (M : Type 0) (mix : ℕ → ℕ → ℕ → ℕ) where
   -- in every run the traces say what happened
   abbrev pub AtEvents : Type 0
   AtEvents =
-      (env : Env) (events : List Event) → IsAdmitted env.config.kind events
+      (env : Env) (events : List Event) → IsAdmitted events
       → let r : Traced M = traced_of mix env events in
       (c : ℕ) → IsTraceAt env events c (r.world.books c).call (r.traces c)
 
@@ -259,7 +259,7 @@ module _ (M : Type 0) (mix : ℕ → ℕ → ℕ → ℕ) where
   -- progress there, of which as many of its calls had ended before, and in that of no other call
   abbrev pub AllStepsTraced : Type 0
   AllStepsTraced =
-      (env : Env) (events : List Event) (c : ℕ) (did : Did) → IsAdmitted env.config.kind events
+      (env : Env) (events : List Event) (c : ℕ) (did : Did) → IsAdmitted events
       → IsRecorded env events c did
       → IsStepOfOne ((traced_of {M = M} mix env events).traces c) (calls_ended env (take did.index events) c) did
 
@@ -267,6 +267,6 @@ module _ (M : Type 0) (mix : ℕ → ℕ → ℕ → ℕ) where
   -- no other call took one
   abbrev pub TakenAlone : Type 0
   TakenAlone =
-      (env : Env) (events : List Event) → IsAdmitted env.config.kind events
+      (env : Env) (events : List Event) → IsAdmitted events
       → let r : Traced M = traced_of mix env events in
       (c : ℕ) → AllByRecursion (λ past. IsTakenIn env.geometry past.done.call past.done.reply past.steps) (r.traces c).past

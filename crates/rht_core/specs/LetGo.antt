@@ -34,5 +34,5 @@ module _ (M : Type 0) (mix : ℕ → ℕ → ℕ → ℕ) where
   -- in every run each call that has ended has let go of its locks and its section
   abbrev pub LetGo : Type 0
   LetGo =
-      (env : Env) (events : List Event) (c : ℕ) → IsAdmitted env.config.kind events
+      (env : Env) (events : List Event) (c : ℕ) → IsAdmitted events
       → AllByRecursion (HasLetGo env events c) ((traced_of {M = M} mix env events).traces c).past

@@ -61,5 +61,5 @@ module _ (M : Type 0) (mix : ℕ → ℕ → ℕ → ℕ) where
   -- in every run it is so of each call that has ended
   abbrev pub ListedOwners : Type 0
   ListedOwners =
-      (env : Env) (events : List Event) (c : ℕ) → IsAdmitted env.config.kind events
+      (env : Env) (events : List Event) (c : ℕ) → IsAdmitted events
       → AllByRecursion (ListsLoaded env) ((traced_of {M = M} mix env events).traces c).past

@@ -104,25 +104,25 @@ module _ (M : Type 0) (mix : ℕ → ℕ → ℕ → ℕ) where
   -- In every run no look-up, ended or in progress, has more operations than the bound: also where a lock is held for good.
   abbrev pub Bounded : Type 0
   Bounded =
-      (env : Env) (events : List Event) (c : ℕ) → IsAdmitted env.config.kind events
+      (env : Env) (events : List Event) (c : ℕ) → IsAdmitted events
       → EachCall (IsShort env) (traced_of mix env events) c
 
   -- And none looks at more than the eight slots.
   abbrev pub MeetsFewTables : Type 0
   MeetsFewTables =
-      (env : Env) (events : List Event) (c : ℕ) → IsAdmitted env.config.kind events
+      (env : Env) (events : List Event) (c : ℕ) → IsAdmitted events
       → EachCall (MeetsEachOnce env) (traced_of mix env events) c
 
   -- and no tidying
   abbrev pub TidiesSoon : Type 0
   TidiesSoon =
-      (env : Env) (events : List Event) (c : ℕ) → IsAdmitted env.config.kind events
+      (env : Env) (events : List Event) (c : ℕ) → IsAdmitted events
       → EachCall (IsShortTidying env) (traced_of mix env events) c
 
   -- and no walk
   abbrev pub WalksSoon : Type 0
   WalksSoon =
-      (env : Env) (events : List Event) (c : ℕ) → IsAdmitted env.config.kind events
+      (env : Env) (events : List Event) (c : ℕ) → IsAdmitted events
       → EachCall (IsShortWalk env) (traced_of mix env events) c
 
   -- A look-up that has ended answered what was so at a moment of its call: behind one of the events from its beginning to its last operation
@@ -143,19 +143,19 @@ module _ (M : Type 0) (mix : ℕ → ℕ → ℕ → ℕ) where
   -- in every run each look-up that has ended did
   abbrev pub TakesEffect : Type 0
   TakesEffect =
-      (env : Env) (events : List Event) (c : ℕ) → IsAdmitted env.config.kind events
+      (env : Env) (events : List Event) (c : ℕ) → IsAdmitted events
       → AllByRecursion (λ past. (port : ℕ) → past.done.call ≡ Find port → AnswersMoment env events past port)
       ((traced_of {M = M} mix env events).traces c).past
 
   abbrev pub FindsWhatStays : Type 0
   FindsWhatStays =
-      (env : Env) (events : List Event) (c : ℕ) → IsAdmitted env.config.kind events
+      (env : Env) (events : List Event) (c : ℕ) → IsAdmitted events
       → AllByRecursion (IsFoundThroughout env events) ((traced_of {M = M} mix env events).traces c).past
 
   -- in every run a look-up, a reading of the count, a tidying and a walk change no bucket's word, and don't touch the work lock
   abbrev pub Harmless : Type 0
   Harmless =
-      (env : Env) (events : List Event) (c : ℕ) → IsAdmitted env.config.kind events
+      (env : Env) (events : List Event) (c : ℕ) → IsAdmitted events
       → EachCall (IsHarmlessCall env) (traced_of mix env events) c
 
   -- in every run a look-up reads in one section of its caller's own: it is opened before the first load and closed behind the last one
@@ -166,4 +166,4 @@ module _ (M : Type 0) (mix : ℕ → ℕ → ℕ → ℕ) where
 
   abbrev pub ReadsInside : Type 0
   ReadsInside =
-      (env : Env) (events : List Event) (c : ℕ) → IsAdmitted env.config.kind events → ReadsInOneSection env (traced_of mix env events) c
+      (env : Env) (events : List Event) (c : ℕ) → IsAdmitted events → ReadsInOneSection env (traced_of mix env events) c

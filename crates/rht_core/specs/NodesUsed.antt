@@ -71,5 +71,5 @@ module _ (M : Type 0) (mix : ℕ → ℕ → ℕ → ℕ) where
   -- in every run it is so of each call that has ended
   abbrev pub Nodes : Type 0
   Nodes =
-      (env : Env) (events : List Event) (c : ℕ) → IsAdmitted env.config.kind events
+      (env : Env) (events : List Event) (c : ℕ) → IsAdmitted events
       → let w : World M = run_of mix env events in AllByRecursion (IsForWant env w) (w.books c).finished

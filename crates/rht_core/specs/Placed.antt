@@ -43,12 +43,12 @@ module _ (M : Type 0) (mix : ℕ → ℕ → ℕ → ℕ) where
   -- so it is in every run, of each table in force
   abbrev pub Placed : Type 0
   Placed =
-      (env : Env) (events : List Event) → IsAdmitted env.config.kind events
+      (env : Env) (events : List Event) → IsAdmitted events
       → let w : World M = run_of mix env events in
       (slot : ℕ) → In slot (in_force env.geometry w.core.words) → AreNodesPlaced mix env.geometry w.core.words slot
 
   -- and in every run tables have their pages for themselves
   abbrev pub OwnPages : Type 0
   OwnPages =
-      (env : Env) (events : List Event) → IsAdmitted env.config.kind events
+      (env : Env) (events : List Event) → IsAdmitted events
       → let w : World M = run_of mix env events in ArePagesOwn env.geometry w.core.words

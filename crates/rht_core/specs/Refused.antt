@@ -236,6 +236,6 @@ module _ (M : Type 0) (mix : ℕ → ℕ → ℕ → ℕ) where
   -- in every run each call that has ended, and changes nothing by its reply, has undone what it did
   abbrev pub Refused : Type 0
   Refused =
-      (env : Env) (events : List Event) (c : ℕ) → IsAdmitted env.config.kind events
+      (env : Env) (events : List Event) (c : ℕ) → IsAdmitted events
       → AllByRecursion (λ past. changes_nothing past.done.call past.done.reply ≡ true → IsUndone env events c past)
       ((traced_of {M = M} mix env events).traces c).past

@@ -68,4 +68,4 @@ module _ (M : Type 0) (mix : ℕ → ℕ → ℕ → ℕ) where
   -- in every run there is a history that fits it
   abbrev pub HasFittingHistory : Type 0
   HasFittingHistory =
-      (env : Env) (events : List Event) → IsAdmitted env.config.kind events → (history : List Numbered) × Fits env events history
+      (env : Env) (events : List Event) → IsAdmitted events → (history : List Numbered) × Fits env events history

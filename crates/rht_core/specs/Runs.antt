@@ -1,5 +1,5 @@
 -- A run: the words, what each caller is doing, and what is known of its calls, from the opening on by a list of events.
-use Rattle.std.specs.Prelude.{◌≡◌, ◌≢◌, ℕ, ◌+◌, ◌^◌, ◌<◌, ◌≤◌, ◌==◌, ◌&&◌, nat_lt, max, if◌then◌else◌, Option, Some, None, List, [], ◌∷◌, ◌++◌, length, replicate, slice_index_or, slice_set}
+use Rattle.std.specs.Prelude.{◌≡◌, ℕ, ◌+◌, ◌^◌, ◌<◌, ◌≤◌, ◌==◌, ◌&&◌, nat_lt, max, if◌then◌else◌, Option, Some, None, List, [], ◌∷◌, ◌++◌, length, replicate, slice_index_or, slice_set}
 use Rattle.std.specs.List.{AllByRecursion}
 use Rattle.rht_words.specs.declared.op.Op.{Op}
 use Rattle.rht_words.specs.declared.op.Op.TheVariants.{Add}
@@ -8,8 +8,6 @@ use Rattle.rht_words.specs.declared.env.Env.{Env}
 use Rattle.rht_words.specs.Operations.{old_of, applied}
 use Rattle.rht_words.specs.Places.{EnrolledCallers, place_of, words_in}
 use Rattle.rht_words.specs.Opening.{opening_words}
-use Rattle.rht_words.specs.declared.config.Kind.{Kind}
-use Rattle.rht_words.specs.declared.config.Kind.TheVariants.{Listed}
 use Rattle.rht_words.specs.Ports.{IsPort}
 use Rattle.rht_model.specs.declared.history.Call.{Call}
 use Rattle.rht_model.specs.declared.history.Call.TheVariants.{Bind, Find, All, Release, Rebind, Walk}
@@ -60,7 +58,7 @@ module _ {M : Type 0} where
   abbrev pub local_of : Core M → ℕ → Local M
   local_of core c = local_in core.env core.locals c
 
-  -- what a caller does that is given this call; none where it isn't enrolled, is in a call, or has no machine for it
+  -- what a caller does that is given this call; none where it isn't enrolled or is in a call, or where a tidying has no batch
   abbrev pub beginning : Env → ℕ → List (Local M) → ℕ → Call → Option (Doing M)
   beginning env enrolled locals c call =
       if nat_lt c enrolled && is_idle (local_in env locals c) then machine_of env c (local_in env locals c).batch call else None
@@ -166,24 +164,13 @@ IsAdmittedCall (Walk None limit) = limit < 2 ^ 32
 IsAdmittedCall (Walk (Some cursor) limit) = (cursor.serial < 2 ^ 64) × (cursor.bucket < 2 ^ 32) × (limit < 2 ^ 32)
 IsAdmittedCall _ = Unit {0}
 
--- in a table of lists nothing is rebound
-abbrev pub IsBuiltFor : Kind → Call → Type 0
-IsBuiltFor kind (Rebind port owner new) = kind ≢ Listed
-IsBuiltFor kind _ = Unit {0}
+abbrev pub IsAdmittedEvent : Event → Type 0
+IsAdmittedEvent Enroll = Unit {0}
+IsAdmittedEvent (Begin c call) = (c < 2 ^ 32) × IsAdmittedCall call
+IsAdmittedEvent (Step c) = c < 2 ^ 32
 
-abbrev pub IsAdmittedEvent : Kind → Event → Type 0
-IsAdmittedEvent kind Enroll = Unit {0}
-IsAdmittedEvent kind (Begin c call) = (c < 2 ^ 32) × IsAdmittedCall call × IsBuiltFor kind call
-IsAdmittedEvent kind (Step c) = c < 2 ^ 32
-
-abbrev pub IsAdmitted : Kind → List Event → Type 0
-IsAdmitted kind events = AllByRecursion (IsAdmittedEvent kind) events
-
--- what is left of that where each number is of its type
-abbrev pub IsBuiltEvent : Kind → Event → Type 0
-IsBuiltEvent kind Enroll = Unit {0}
-IsBuiltEvent kind (Begin c call) = IsBuiltFor kind call
-IsBuiltEvent kind (Step c) = Unit {0}
+abbrev pub IsAdmitted : List Event → Type 0
+IsAdmitted events = AllByRecursion IsAdmittedEvent events
 
 module _ {M : Type 0} where
   -- at opening nobody has enrolled
@@ -232,7 +219,7 @@ module _ {M : Type 0} where
     -- there is a run that leads here
     pub record IsReached (core : Core M) : Type 0 where
       pub events : List Event
-      pub admitted : IsAdmitted core.env.config.kind events
+      pub admitted : IsAdmitted events
       pub same : (run_of core.env events).core ≡ core
 
   abbrev pub view_of : World M → ℕ → View M

@@ -24,13 +24,13 @@ module _ (M : Type 0) (mix : ℕ → ℕ → ℕ → ℕ) where
   -- in every run a caller that is in no call is in no read section, whether it is enrolled or not
   abbrev pub Sections : Type 0
   Sections =
-      (env : Env) (events : List Event) (c : ℕ) → IsAdmitted env.config.kind events → c < env.geometry.callers
+      (env : Env) (events : List Event) (c : ℕ) → IsAdmitted events → c < env.geometry.callers
       → is_idle (local_of (run_of {M = M} mix env events).core c) ≡ true
       → IsInNoSection env.geometry (run_of {M = M} mix env events).core.words c
 
   -- in every run an operation of a call that is on a section word leaves it as it was, or adds 1 to the caller's own
   abbrev pub OwnSections : Type 0
   OwnSections =
-      (env : Env) (events : List Event) (c d : ℕ) (did : Did) → IsAdmitted env.config.kind events → d < 16
+      (env : Env) (events : List Event) (c d : ℕ) (did : Did) → IsAdmitted events → d < 16
       → IsRecorded M mix env events c did → op_place did.op ≡ place_of env.geometry (Section d)
       → (word_after did.old did.op ≡ did.old) ⊎ AddsToOwn env.geometry c d did.op

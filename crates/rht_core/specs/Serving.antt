@@ -93,7 +93,7 @@ pub record IsServedRun (M : Type 0) (mix : ℕ → ℕ → ℕ → ℕ) (config 
   pub env : Env
   pub config_same : env.config ≡ config
   pub events : List Event
-  pub admitted : IsAdmitted config.kind events
+  pub admitted : IsAdmitted events
   pub workers : length endings ≡ config.callers
   pub each : (caller : ℕ) → caller < config.callers
       → IsServing {M = M} (run_of mix env events) auto caller (calls_of (caller + 1) commands) (slice_index_or endings caller [])

@@ -80,7 +80,7 @@ module _ (M : Type 0) (mix : ℕ → ℕ → ℕ → ℕ) where
   abbrev pub Shown : Type 0
   Shown =
       (env : Env) (events : List Event) (c : ℕ) (first : Past) (pasts : List Past)
-      → IsAdmitted env.config.kind events
+      → IsAdmitted events
       → (pasts ≢ [] → AreFewMade env events)
       → AreWalks None (first ∷ pasts)
       → AreAmong (first ∷ pasts) ((traced_of {M = M} mix env events).traces c).past
@@ -89,5 +89,5 @@ module _ (M : Type 0) (mix : ℕ → ℕ → ℕ → ℕ) where
   -- in every run it is so of each call that has ended
   abbrev pub ShownWhole : Type 0
   ShownWhole =
-      (env : Env) (events : List Event) (c : ℕ) → IsAdmitted env.config.kind events
+      (env : Env) (events : List Event) (c : ℕ) → IsAdmitted events
       → AllByRecursion (ShowsLoaded env) ((traced_of {M = M} mix env events).traces c).past

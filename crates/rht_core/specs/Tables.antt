@@ -90,7 +90,7 @@ module _ (M : Type 0) (mix : ℕ → ℕ → ℕ → ℕ) where
   -- in every run the tables in force are right, and each has a serial of its own
   abbrev pub Tables : Type 0
   Tables =
-      (env : Env) (events : List Event) → IsAdmitted env.config.kind events
+      (env : Env) (events : List Event) → IsAdmitted events
       → let w : World M = run_of mix env events in
       AreTablesRight env w.core.words × AreNumbered env w.core.words (drawn_in M mix env events)
 
@@ -106,7 +106,7 @@ module _ (M : Type 0) (mix : ℕ → ℕ → ℕ → ℕ) where
   -- No serial comes back, where fewer than 2^64 were drawn: a table in force that has the serial of one that was in force before is that one.
   abbrev pub NeverAgain : Type 0
   NeverAgain =
-      (env : Env) (before between behind : List Event) → IsAdmitted env.config.kind (before ++ between ++ behind)
+      (env : Env) (before between behind : List Event) → IsAdmitted (before ++ between ++ behind)
       → drawn_in M mix env (before ++ between ++ behind) < 2 ^ 64 → (one other : ℕ)
       → In one (in_force env.geometry (words_behind env before))
       → In other (in_force env.geometry (words_behind env (before ++ between ++ behind)))

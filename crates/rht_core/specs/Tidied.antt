@@ -56,6 +56,6 @@ module _ (M : Type 0) (mix : ℕ → ℕ → ℕ → ℕ) where
   -- in every run each tidying that has ended
   abbrev pub Tidied : Type 0
   Tidied =
-      (env : Env) (events : List Event) (c : ℕ) → IsAdmitted env.config.kind events
+      (env : Env) (events : List Event) (c : ℕ) → IsAdmitted events
       → AllByRecursion (λ (past : Past). past.done.call ≡ Tidy → HasTidied env events c past)
       ((traced_of {M = M} mix env events).traces c).past

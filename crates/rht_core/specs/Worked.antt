@@ -75,7 +75,7 @@ module _ (M : Type 0) (mix : ℕ → ℕ → ℕ → ℕ) where
   -- in every run each resizing has worked so that has ended with no other caller in a call
   abbrev pub Worked : Type 0
   Worked =
-      (env : Env) (events : List Event) (c : ℕ) (past : Past) → IsAdmitted env.config.kind events
+      (env : Env) (events : List Event) (c : ℕ) (past : Past) → IsAdmitted events
       → Contains ((traced_of {M = M} mix env events).traces c).past past
       → past.done.call ≡ Work
       → IsAloneDuring env events c past
@@ -95,7 +95,7 @@ module _ (M : Type 0) (mix : ℕ → ℕ → ℕ → ℕ) where
   -- in every run each resizing that has ended has given each such table back, whoever else was in a call
   abbrev pub GivesRetiredBack : Type 0
   GivesRetiredBack =
-      (env : Env) (events : List Event) (c slot : ℕ) (past : Past) → IsAdmitted env.config.kind events
+      (env : Env) (events : List Event) (c slot : ℕ) (past : Past) → IsAdmitted events
       → Contains ((traced_of {M = M} mix env events).traces c).past past
       → past.done.call ≡ Work
       → IsToReturn env events c slot past

@@ -6,7 +6,7 @@ ghost use Rattle.rht_words.specs.Operations.{old_of, applied};
 ghost use Rattle.rht_words.specs.Opening.{opening_words};
 ghost use Rattle.rht_words.specs.Places.{words_in};
 ghost use Rattle.rht_words.specs.Settled.{IsSettled};
-ghost use Rattle.rht_core.specs.Runs.{core_of, core_step, local_of, begun, planned, with_step, enrolling, enrolled_after, has_done, IsSound, MayPut, IsBuiltEvent, IsOpened};
+ghost use Rattle.rht_core.specs.Runs.{core_of, core_step, local_of, begun, planned, with_step, enrolling, enrolled_after, has_done, IsSound, MayPut, IsOpened};
 ghost use Rattle.rht_callers.specs.Locals.{fresh, is_idle, IsLocalOf};
 ghost use Rattle.rht_stands.specs.Closing.{current_size, IsClosedOf};
 
@@ -61,10 +61,8 @@ impl<M: Mix> State<M> {
         })
     }
 
-    /// Performs the event. It takes no memory and refuses nothing. In a table of lists nothing is
-    /// rebound.
+    /// Performs the event. It takes no memory and refuses nothing.
     pub fn step(&mut self, event: Event) -> Stepped
-        requires { IsBuiltEvent self.old.env.config.kind event }
         ensures { (self.new, result) ≡ core_step M.mix_of self.old event }
     {
         perform(

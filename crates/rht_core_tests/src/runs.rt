@@ -117,6 +117,10 @@ fn release(port: u64, owner: u32) -> Asked {
     Asked::Release { port, owner }
 }
 
+fn rebind(port: u64, owner: u32, new: u32) -> Asked {
+    Asked::Rebind { port, owner, new }
+}
+
 /// A table of 8 nodes and 4 pages for one caller, with the low hash.
 fn small() -> Config {
     Config {
@@ -236,7 +240,8 @@ fn place_in(bound: &[(u64, u32)], gone: (u64, u32)) -> Option<usize>
     None
 }
 
-/// The call has had this reply. A release takes out the latest binding of its port and owner.
+/// The call has had this reply. A release takes out the latest binding of its port and owner, and a rebind
+/// puts another one in its place.
 fn ended<M: Mix>(run: &mut Run<M>, asked: Asked, reply: Reply) -> Result<(), AllocError> {
     if let (Asked::Bind { port, owner, .. }, Reply::Bound { .. }) = (asked, reply) {
         run.bound.insert(0, (port, owner))?;
@@ -244,6 +249,11 @@ fn ended<M: Mix>(run: &mut Run<M>, asked: Asked, reply: Reply) -> Result<(), All
     if let (Asked::Release { port, owner }, Reply::Released { .. }) = (asked, reply) {
         if let Some(at) = place_in(run.bound.as_slice(), (port, owner)) {
             run.bound.remove(at);
+        }
+    }
+    if let (Asked::Rebind { port, owner, new }, Reply::Rebound) = (asked, reply) {
+        if let Some(at) = place_in(run.bound.as_slice(), (port, owner)) {
+            run.bound[at] = (port, new);
         }
     }
     Ok(())

@@ -10,8 +10,12 @@ pub mod Rebinding
 pub mod Relinking
 -- the stores that take nodes out of chains and lists
 pub mod Removing
+-- a store that gives a list another rest
+pub mod Relisting
 -- the store that takes a node out of a list
 pub mod ListCuts
+-- the store that puts another node into the place of one of a list
+pub mod ListSwaps
 -- which table is the current one, which are retired, and who does the work
 pub mod Standing
 -- the work lock

@@ -18,6 +18,8 @@ pub mod PortCounts
 pub mod Lists
 -- behind a store that changes what a port is bound to
 pub mod Rebounds
+-- a node that a caller has found behind the first one of a port's list
+pub mod LaterNodes
 -- the stores of a relinking
 pub mod Relinks
 -- a node is put in front of the list of a port

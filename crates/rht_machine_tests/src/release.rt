@@ -422,6 +422,8 @@ fn assert_rebind(
 fn rebinds_that_are_made(rt: HostRuntime) {
     let front = [
         Op::load(288),
+        Op::load(289),
+        Op::store(305, 0),
         Op::load(286),
         Op::store(302, 2),
         Op::store(319, 12),
@@ -429,8 +431,18 @@ fn rebinds_that_are_made(rt: HostRuntime) {
     ];
     let parts: [&[Op]; 3] = [&new_node(69), &way(), &front];
     assert_rebind(&rt, (69, 1), &[], &parts, (Reply::Rebound, Some(1)));
+    // The owner may take its own place.
+    assert_rebind(
+        &rt,
+        (69, 11),
+        &[(288, 11)],
+        &parts,
+        (Reply::Rebound, Some(1)),
+    );
     let later = [
         Op::load(300),
+        Op::load(301),
+        Op::store(305, 0),
         Op::load(298),
         Op::store(302, 639),
         Op::store(282, 12),
@@ -441,6 +453,8 @@ fn rebinds_that_are_made(rt: HostRuntime) {
     assert_rebind(&rt, (133, 2), &[], &parts, (Reply::Rebound, Some(4)));
     let behind = [
         Op::load(288),
+        Op::load(289),
+        Op::store(305, 0),
         Op::load(286),
         Op::store(302, 1_023),
         Op::store(511, 12),
@@ -451,10 +465,52 @@ fn rebinds_that_are_made(rt: HostRuntime) {
 }
 
 #[test]
+fn rebinds_of_a_port_with_three_owners(rt: HostRuntime) {
+    let first = [
+        Op::load(284),
+        Op::load(285),
+        Op::store(305, 6),
+        Op::load(282),
+        Op::store(302, 10),
+        Op::store(286, 12),
+        Op::store(319, 4),
+        Op::add(8, 1),
+    ];
+    let parts: [&[Op]; 4] = [&new_node(5), &way(), &on_to_5(), &first];
+    assert_rebind(&rt, (5, 9), &[], &parts, (Reply::Rebound, Some(0)));
+    let second = [
+        Op::load(284),
+        Op::load(285),
+        Op::load(292),
+        Op::load(293),
+        Op::store(305, 8),
+        Op::store(285, 12),
+        Op::store(319, 4),
+        Op::add(8, 1),
+    ];
+    let parts: [&[Op]; 4] = [&new_node(5), &way(), &on_to_5(), &second];
+    assert_rebind(&rt, (5, 7), &[], &parts, (Reply::Rebound, Some(2)));
+    // Of two that are the old owner it is the first.
+    assert_rebind(&rt, (5, 7), &[(296, 7)], &parts, (Reply::Rebound, Some(2)));
+    let last = [
+        Op::store(305, 0),
+        Op::store(293, 12),
+        Op::store(319, 4),
+        Op::add(8, 1),
+    ];
+    let parts: [&[Op]; 5] = [&new_node(5), &way(), &on_to_5(), &three_owners(), &last];
+    assert_rebind(&rt, (5, 8), &[], &parts, (Reply::Rebound, Some(3)));
+    let none = [Op::store(319, 4), Op::add(8, 1), Op::or(280, 32)];
+    let parts: [&[Op]; 5] = [&new_node(5), &way(), &on_to_5(), &three_owners(), &none];
+    assert_rebind(&rt, (5, 6), &[], &parts, (Reply::Absent, None));
+}
+
+#[test]
 fn rebinds_that_are_not_made(rt: HostRuntime) {
     let absent = (Reply::Absent, None);
     let other = [
         Op::load(288),
+        Op::load(289),
         Op::store(319, 4),
         Op::add(8, 1),
         Op::or(280, 32),

@@ -1,6 +1,6 @@
 -- A call changes its own port alone, and in a table of one owner each it leaves each port at most one.
 -- Every call that changes bindings gives one port other owners.
-use Rattle.std.proofs.Common.{◌≡◌, ◌≢◌, ℕ, ◌≤◌, ◌==◌, List, [], ◌∷◌, length, refl, sym, ap, eq-eqb, arith, Some}
+use Rattle.std.proofs.Common.{◌≡◌, ◌≢◌, ℕ, ◌≤◌, ◌==◌, List, [], ◌∷◌, length, suc, refl, sym, ap, eq-eqb, arith, Some}
 use Rattle.std.proofs.lemmas.Bool.{ne_eqb, cond_both}
 use Rattle.rht_words.specs.declared.config.Kind.{Kind}
 use Rattle.rht_words.specs.declared.config.Kind.TheVariants as kinds
@@ -66,14 +66,15 @@ length-owners_released owner (first ∷ others) =
     (λ here. omega arith)
     (λ elsewhere. omega (arith, length-owners_released owner others))
 
--- a rebind has as many owners as before
+-- By induction over the owners: a rebind leaves as many.
 pub length-owners_rebound : (owner new : ℕ) (owners : List ℕ)
     → length (owners_rebound owner new owners) ≡ length owners
 length-owners_rebound owner new [] = refl
-length-owners_rebound owner new (only ∷ []) =
-    cond_both (only == owner) (new ∷ []) (only ∷ []) (λ list. length list ≡ 1) (λ here. refl)
-    (λ elsewhere. refl)
-length-owners_rebound owner new (first ∷ second ∷ others) = refl
+length-owners_rebound owner new (first ∷ others) =
+    cond_both (first == owner) (new ∷ others) (first ∷ owners_rebound owner new others)
+    (λ list. length list ≡ length (first ∷ others))
+    (λ here. refl)
+    (λ elsewhere. ap suc (length-owners_rebound owner new others))
 
 -- In a table of one owner each, no call gives a port two.
 pub IsSingle-bindings_after : (bindings : Multimap) (call : Call) → IsSingle bindings

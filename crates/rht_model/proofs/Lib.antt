@@ -24,5 +24,9 @@ pub mod Refusals
 pub mod UnchangedBindings
 -- an ending that is kept stays as it was when others are
 pub mod KeptEndings
+-- what becomes of owners that change at the first one of a call
+pub mod FirstOwners
 -- what a release answers and leaves, by where its owner stands
 pub mod ReleasedOwners
+-- what a rebind answers and leaves, by where its owner stands
+pub mod ReboundOwners

@@ -31,11 +31,10 @@ is_refusal-release_reply owner owners =
     (λ absent. refl)
 
 is_refusal-rebind_reply : (owner : ℕ) (owners : List ℕ) → is_refusal (rebind_reply owner owners) ≡ false
-is_refusal-rebind_reply owner [] = refl
-is_refusal-rebind_reply owner (only ∷ []) =
-    cond_both (only == owner) Rebound Absent (λ reply. is_refusal reply ≡ false) (λ bound. refl)
+is_refusal-rebind_reply owner owners =
+    cond_both (list_any (λ o. o == owner) owners) Rebound Absent (λ reply. is_refusal reply ≡ false)
+    (λ bound. refl)
     (λ absent. refl)
-is_refusal-rebind_reply owner (first ∷ second ∷ others) = refl
 
 -- whether a call's answer, if it has one, is a refusal
 abbrev answers_refusal : Option Answer → Bool

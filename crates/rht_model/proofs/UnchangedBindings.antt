@@ -1,9 +1,8 @@
 -- A legal entry changes bindings only if it is answered Bound, Released or Rebound; one that changes
 -- nothing may be put into a legal history where it is legal, and taken out of it.
 -- By the call: where its reply is another one, the owners that it gives its port are those that the port has.
-use Rattle.std.proofs.Common.{◌≡◌, ℕ, ◌==◌, ◌↔◌, Bool, true, false, Option, List, [], ◌∷◌, ◌++◌, refl, ◌∙◌, ap, eq-eqb, inl, inr}
-use Rattle.std.proofs.lemmas.Bool.{ne_eqb, cases_eq, cases_Bool}
-use Rattle.std.specs.List.{list_any}
+use Rattle.std.proofs.Common.{◌≡◌, ℕ, ◌↔◌, if◌then◌else◌, Bool, true, false, Option, List, [], ◌∷◌, ◌++◌, refl, ◌∙◌, ap, eq-eqb, inl, inr}
+use Rattle.std.proofs.lemmas.Bool.{ne_eqb, cases_eq, cases_Bool, both_ways}
 use Rattle.std.specs.Option.{option_map_or}
 use Rattle.rht_words.specs.declared.config.Kind.{Kind}
 use Rattle.rht_words.specs.declared.config.Kind.TheVariants as kinds
@@ -11,11 +10,12 @@ use Rattle.rht_model.specs.declared.history.Call.{Call}
 use Rattle.rht_model.specs.declared.history.Call.TheVariants.{Bind, Find, All, Release, Rebind, Walk, Work, Tidy, Count}
 use Rattle.rht_model.specs.declared.history.Entry.{Entry}
 use Rattle.rht_model.specs.declared.history.Reply.{Reply}
-use Rattle.rht_model.specs.declared.history.Reply.TheVariants.{Bound, Released}
+use Rattle.rht_model.specs.declared.history.Reply.TheVariants.{Bound, Released, Rebound, Absent}
 use Rattle.rht_model.specs.Multimap.{Multimap, Agree, with_owners}
 use Rattle.rht_model.specs.Answers.{Answer, answer_of, bindings_after, owners_bound, owners_released, owners_rebound, bind_reply, release_reply, rebind_reply, is_change}
 use Rattle.rht_model.specs.Histories.{without_kick, IsLegalAt, IsLegalFrom, left_by, bindings_left}
 use Rattle.rht_model.proofs.Agreements.{Agree-refl, Agree-sym, IsLegalFrom-Agree, bindings_left-Agree}
+use Rattle.rht_model.proofs.FirstOwners.{IsAtFirst-released, IsAtFirst-rebound, has_owner, changed-none}
 use Rattle.rht_model.proofs.LongerHistories.{IsLegalFrom-behind, bindings_left-behind}
 use Rattle.rht_model.proofs.Refusals.{left_by-IsAnswered, left_by-IsRefused}
 
@@ -35,40 +35,28 @@ owners_bound-unchanged kinds.Single owner [] unchanged = cc
 owners_bound-unchanged kinds.Single owner (first ∷ others) unchanged = refl
 owners_bound-unchanged kinds.Listed owner owners unchanged = cc
 
--- By induction over the owners: without this one among them, none is taken out.
-owners_released-absent : (owner : ℕ) (owners : List ℕ) → list_any (λ o. o == owner) owners ≡ false
-    → owners_released owner owners ≡ owners
-owners_released-absent owner [] absent = refl
-owners_released-absent owner (first ∷ others) absent =
-    elim (cases_Bool (first == owner)) [
-      | inl here ↦
-          let found : true ≡ false = rw here at absent in
-          cc
-      | inr elsewhere ↦ rw elsewhere (ap (λ list. first ∷ list)
-          (owners_released-absent owner others (rw elsewhere at absent)))
+-- where a reply of a call that names an owner is no change, that owner is none of the port's
+none_among : (owner : ℕ) (owners : List ℕ) (reply : Reply) → is_change reply ≡ true
+    → is_change (if has_owner owner owners then reply else Absent) ≡ false → has_owner owner owners ≡ false
+none_among owner owners reply change unchanged =
+    elim (cases_Bool (has_owner owner owners)) [
+      | inl bound ↦
+          let no_change : is_change reply ≡ false = rw bound at unchanged in
+          absurd (both_ways _ no_change change)
+      | inr absent ↦ absent
     ]
 
 owners_released-unchanged : (owner : ℕ) (owners : List ℕ) → is_change (release_reply owner owners) ≡ false
     → owners_released owner owners ≡ owners
 owners_released-unchanged owner owners unchanged =
-    elim (cases_Bool (list_any (λ o. o == owner) owners)) [
-      | inl bound ↦
-          let change : true ≡ false = rw bound at unchanged in
-          cc
-      | inr absent ↦ owners_released-absent owner owners absent
-    ]
+    changed-none owner (owners_released owner) (λ others. others) (IsAtFirst-released owner) owners
+    (none_among owner owners (Released false) refl unchanged)
 
 owners_rebound-unchanged : (owner new : ℕ) (owners : List ℕ) → is_change (rebind_reply owner owners) ≡ false
     → owners_rebound owner new owners ≡ owners
-owners_rebound-unchanged owner new [] unchanged = refl
-owners_rebound-unchanged owner new (only ∷ []) unchanged =
-    elim (cases_Bool (only == owner)) [
-      | inl here ↦
-          let change : true ≡ false = rw here at unchanged in
-          cc
-      | inr elsewhere ↦ rw elsewhere refl
-    ]
-owners_rebound-unchanged owner new (first ∷ second ∷ others) unchanged = refl
+owners_rebound-unchanged owner new owners unchanged =
+    changed-none owner (owners_rebound owner new) (λ others. new ∷ others) (IsAtFirst-rebound owner new) owners
+    (none_among owner owners Rebound refl unchanged)
 
 -- whether a call's answer, if it has one, is a change
 abbrev answers_change : Option Answer → Bool

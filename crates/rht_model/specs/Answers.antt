@@ -46,17 +46,15 @@ owners_released owner [] = []
 owners_released owner (first ∷ others) = if first == owner then others else first ∷ owners_released owner
     others
 
--- a rebind where the port has these owners: it wants the old owner to be the only one
+-- a rebind where the port has these owners
 abbrev pub rebind_reply : ℕ → List ℕ → Reply
-rebind_reply owner [] = Absent
-rebind_reply owner (only ∷ []) = if only == owner then Rebound else Absent
-rebind_reply owner (first ∷ second ∷ others) = Absent
+rebind_reply owner owners = if list_any (λ o. o == owner) owners then Rebound else Absent
 
--- the owners after a rebind
+-- the owners with another one in the place of the first that is this one
 abbrev pub owners_rebound : ℕ → ℕ → List ℕ → List ℕ
 owners_rebound owner new [] = []
-owners_rebound owner new (only ∷ []) = if only == owner then new ∷ [] else only ∷ []
-owners_rebound owner new (first ∷ second ∷ others) = first ∷ second ∷ others
+owners_rebound owner new (first ∷ others) = if first == owner then new ∷ others else first ∷ owners_rebound owner new
+    others
 
 -- the answer of a call on bindings; none for a call that isn't about them
 abbrev pub answer_of : Kind → Multimap → Call → Option Answer

@@ -24,7 +24,8 @@ pub enum Call {
     All { port: Port },
     /// Takes one binding of a port to this owner out, as `rhashtable_remove_fast` does.
     Release { port: Port, owner: u32 },
-    /// Puts a new owner in the only one's place, as `rhashtable_replace_fast` does.
+    /// Puts a new owner in the place of the port's first one that is `owner`. In a table of one
+    /// owner each, that is what `rhashtable_replace_fast` does.
     Rebind { port: Port, owner: u32, new: u32 },
     /// Shows ports with their first owners, bucket by bucket, as `rhashtable_walk_next` does,
     /// until a bucket ends with `limit` of them shown.

@@ -7,7 +7,7 @@ ghost use Rattle.rht_model.specs.Answers.{bind_reply, find_reply, release_reply,
 ghost use Rattle.rht_model.specs.Histories.{without_kick, IsAnswered, IsRefused, IsLegalAt, left_by, IsLegal};
 
 use crate::history::{Call, Entry, Reply};
-use crate::pair_list::{PairList, is_only};
+use crate::pair_list::PairList;
 use rht_words::Kind;
 use std::alloc::{AllocError, Global};
 
@@ -158,7 +158,7 @@ fn release_reply(owner: u32, owners: &[u32]) -> Reply
 fn rebind_reply(owner: u32, owners: &[u32]) -> Reply
     ensures { result ≡ rebind_reply owner owners.now }
 {
-    if is_only(owner, owners) {
+    if owners.contains(&owner) {
         Reply::Rebound
     } else {
         Reply::Absent

@@ -1,6 +1,6 @@
 //! Bindings as a plain list of pairs. It is slow, and is there to be compared with.
 
-ghost use Rattle.std.specs.Prelude.{◌≡◌, ◌==◌, ◌&&◌, ◌↔◌, [], ◌∷◌, IsTrue, IfOk, OnOk, position};
+ghost use Rattle.std.specs.Prelude.{◌≡◌, ◌==◌, ◌&&◌, [], ◌∷◌, IfOk, OnOk, position};
 ghost use Rattle.rht_model.specs.Multimap.{unbound};
 ghost use Rattle.rht_model.specs.Pairs.{bindings_in, ChangesOwners};
 ghost use Rattle.rht_model.specs.Answers.{bindings_after, owners_bound, owners_released, owners_rebound};
@@ -57,7 +57,10 @@ impl PairList {
                 self.release(port, owner);
                 Ok(())
             }
-            Call::Rebind { port, owner, new } => self.rebind(alloc, port, owner, new),
+            Call::Rebind { port, owner, new } => {
+                self.rebind(port, owner, new);
+                Ok(())
+            }
             _ => Ok(()),
         }
     }
@@ -79,14 +82,12 @@ impl PairList {
         }
     }
 
-    fn rebind(&mut self, alloc: Global, port: Port, owner: u32, new: u32) -> Result<(), AllocError>
-        ensures { OnOk result (ChangesOwners self.old self.new port (owners_rebound owner new)) }
+    fn rebind(&mut self, port: Port, owner: u32, new: u32)
+        ensures { ChangesOwners self.old self.new port (owners_rebound owner new) }
     {
-        if is_only(owner, &self.owners(alloc, port)?) {
-            self.release(port, owner);
-            self.put_first(port, new)?;
+        if let Some(place) = first_place(&self.pairs, port, owner) {
+            self.pairs[place] = (port, new);
         }
-        Ok(())
     }
 
     /// Binds the port to one owner more, who is its first one then.
@@ -103,14 +104,4 @@ fn first_place(pairs: &[(Port, u32)], port: Port, owner: u32) -> Option<usize>
     ensures { result ≡ position (λ pair. pair.0 == port && pair.1 == owner) pairs.now }
 {
     pairs.iter().position(|pair| *pair == (port, owner))
-}
-
-/// Whether these are this owner alone.
-pub fn is_only(owner: u32, owners: &[u32]) -> bool
-    ensures { IsTrue result ↔ (owners.now ≡ owner ∷ []) }
-{
-    match owners {
-        [only] => *only == owner,
-        _ => false,
-    }
 }

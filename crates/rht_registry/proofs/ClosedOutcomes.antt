@@ -9,7 +9,7 @@ use Rattle.rht_model.specs.declared.history.Call.{Call}
 use Rattle.rht_model.specs.Endings.{Ending}
 use Rattle.rht_core.specs.Closing.{IsClosedOf}
 use Rattle.rht_core.specs.Locals.{is_idle}
-use Rattle.rht_core.specs.Runs.{World, View, run_of, IsAdmitted}
+use Rattle.rht_core.specs.Runs.{World, View, run_of}
 use Rattle.rht_core.specs.Serving.{Serves, calls_of, IsServing, IsServedRun}
 use Rattle.rht_run.specs.declared.table.Table.{Table}
 use Rattle.rht_run.specs.declared.pass.Pass.{Pass}
@@ -138,7 +138,7 @@ module _ (M : Type 0) (script : Script) (outcome : Outcome M) (is : IsOutcome M 
       env = outcome.table.env;
       config_same = is.config;
       events = end.end.events;
-      admitted = subst (λ (c : Config). IsAdmitted c.kind end.end.events) is.config end.end.admitted;
+      admitted = end.end.admitted;
       workers = is.replies;
       each = λ caller below.
           let length_passes = is.passes in

@@ -9,7 +9,7 @@ use Rattle.rht_model.specs.declared.history.Call.{Call}
 use Rattle.rht_core.specs.declared.event.Event.TheVariants.{Begin, Step}
 use Rattle.rht_core.specs.declared.event.Stepped.{Stepped}
 use Rattle.rht_core.specs.Locals.{is_idle}
-use Rattle.rht_core.specs.Runs.{Core, local_of, core_step, IsBuiltFor}
+use Rattle.rht_core.specs.Runs.{Core, local_of, core_step}
 use Rattle.rht_core.specs.Serving.{calls_of}
 use Rattle.rht_registry.specs.declared.replaying.player.Player.{Player}
 use Rattle.rht_callers.specs.declared.local.Local.{Local}
@@ -21,16 +21,15 @@ pub most_events-is : most_events ≡ 1000000
 unfolding most_events
 most_events-is = refl
 
-module _ {M : Type 0} (commands : List (ℕ × Call)) where
+module _ {M : Type 0} where
   -- with as many places in a table of the same environment it goes on
-  pub CanPlay-stays : (before after : Player M) → CanPlay commands before
-      → length after.next.items ≡ length before.next.items → after.state.env ≡ before.state.env → CanPlay commands after
+  pub CanPlay-stays : (before after : Player M) → CanPlay before
+      → length after.next.items ≡ length before.next.items → after.state.env ≡ before.state.env → CanPlay after
   CanPlay-stays before after can long env = record {
     places = long ∙ can.places ∙ ap (λ (e : Env). e.geometry.callers) (sym env);
-    built =
-        subst (λ (e : Env). AllByRecursion (λ command. IsBuiltFor e.config.kind command.1) commands) (sym env) can.built;
   }
 
+module _ {M : Type 0} (commands : List (ℕ × Call)) where
   -- a place moved past the commands of others changes nothing of the replay
   pub playing_of-moved : (before after : Player M) (c place : ℕ) → c < length before.next.items
       → after.next.items ≡ slice_set before.next.items c place

@@ -9,7 +9,7 @@ use Rattle.rht_words.specs.Settled.{IsSettled}
 use Rattle.rht_words.proofs.EachElement.{AllByRecursion-weaker}
 use Rattle.rht_model.specs.declared.history.Call.{Call}
 use Rattle.rht_core.specs.Locals.{is_idle}
-use Rattle.rht_core.specs.Runs.{Core, local_of, IsAdmittedCall, IsBuiltFor}
+use Rattle.rht_core.specs.Runs.{Core, local_of, IsAdmittedCall}
 use Rattle.rht_core.specs.Closing.{current_size}
 use Rattle.rht_script.specs.declared.script.Script.{Script}
 use Rattle.rht_script.specs.declared.script.Sched.{Sched}
@@ -91,16 +91,6 @@ lines-for config env schedule lines same is sound =
     subst (λ l. AllByRecursion (IsLineFor env.geometry.callers) l) (sym is)
     (subst (λ n. AllByRecursion (IsLineFor n) schedule) callers (sound-lines config schedule sound))
 
--- and each command one for its table
-pub commands-for : (form : ℕ) (config : Config) (env : Env) (commands given : List (ℕ × Call)) → env.config ≡ config → given ≡ commands
-    → IsTrue (list_all (is_sound_command form config) commands)
-    → AllByRecursion (λ command. IsBuiltFor env.config.kind command.1) given
-commands-for form config env commands given same is sound =
-    subst (λ l. AllByRecursion (λ (command : ℕ × Call). IsBuiltFor env.config.kind command.1) l) (sym is)
-    (AllByRecursion-weaker (IsCommandFor config) (λ command. IsBuiltFor env.config.kind command.1)
-    (λ command for. subst (λ (k : Config). IsBuiltFor k.kind command.1) (sym same) for.kind) commands
-    (sound-commands form config commands sound))
-
 -- ---- its run
 
 -- the replay of a sound script is a run
@@ -108,8 +98,7 @@ pub replay-in_run : (M : Type 0) (mix : ℕ → ℕ → ℕ → ℕ) (env : Env)
     → IsSoundScript script → IsInRun M mix env script
 replay-in_run M mix env script same sound =
     replay-runs M mix env script
-    (subst (λ (k : Config). AllByRecursion (λ command. IsAdmittedCall command.1 × IsBuiltFor k.kind command.1) script.commands.items)
-    (sym same) (sound-calls script.form script.config script.commands.items sound.settled sound.commands))
+    (sound-calls script.form script.config script.commands.items sound.settled sound.commands)
     (lines-for script.config env script.schedule.items script.schedule.items same refl sound.schedule)
 
 -- ---- the whole

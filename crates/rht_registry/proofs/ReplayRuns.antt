@@ -14,7 +14,7 @@ use Rattle.rht_core.specs.declared.event.Event.{Event}
 use Rattle.rht_core.specs.declared.event.Event.TheVariants.{Enroll, Begin, Step}
 use Rattle.rht_core.specs.declared.event.Stepped.{Stepped}
 use Rattle.rht_core.specs.Locals.{is_idle}
-use Rattle.rht_core.specs.Runs.{Core, World, local_of, core_step, run_of, IsAdmitted, IsAdmittedCall, IsAdmittedEvent, IsBuiltFor}
+use Rattle.rht_core.specs.Runs.{Core, World, local_of, core_step, run_of, IsAdmitted, IsAdmittedCall, IsAdmittedEvent}
 use Rattle.rht_core.specs.Serving.{calls_of}
 use Rattle.rht_core.proofs.Events.Worlds.{run_of-push}
 use Rattle.rht_script.specs.declared.script.Script.{Script}
@@ -24,10 +24,6 @@ use Rattle.rht_registry.specs.Replays.{most_events, Playing, left_at, is_through
 use Rattle.rht_registry.specs.Players.{IsLineFor}
 
 module _ (env : Env) where
-  -- a call that may begin in a run
-  abbrev pub MayBegin : Call → Type 0
-  MayBegin call = IsAdmittedCall call × IsBuiltFor env.config.kind call
-
   -- the line is one of the table's workers'
   abbrev IsFor : Sched → Type 0
   IsFor line = IsLineFor env.geometry.callers line
@@ -36,44 +32,44 @@ module _ (env : Env) where
   small-worker worker last =
       let few = env.geometry.within.callers_within.1 in omega (arith, last, few)
 
-  enrolls-admitted : (n : ℕ) → IsAdmitted env.config.kind (replicate n Enroll)
+  enrolls-admitted : (n : ℕ) → IsAdmitted (replicate n Enroll)
   enrolls-admitted zero = tt
   enrolls-admitted (suc n) = (tt, enrolls-admitted n)
 
   -- the calls of a worker are among those of all commands
-  calls-may : (worker : ℕ) (commands : List (ℕ × Call)) → AllByRecursion (λ command. MayBegin command.1) commands
-      → AllByRecursion MayBegin (calls_of worker commands)
+  calls-may : (worker : ℕ) (commands : List (ℕ × Call)) → AllByRecursion (λ command. IsAdmittedCall command.1) commands
+      → AllByRecursion IsAdmittedCall (calls_of worker commands)
   calls-may worker [] may = tt
   calls-may worker (command ∷ commands) may = by_test (command.0 == worker) (calls-may worker commands may.1)
     where
-      by_test : (own : Bool) → AllByRecursion MayBegin (calls_of worker commands)
-          → AllByRecursion MayBegin (cond own (command.1 ∷ calls_of worker commands) (calls_of worker commands))
+      by_test : (own : Bool) → AllByRecursion IsAdmittedCall (calls_of worker commands)
+          → AllByRecursion IsAdmittedCall (cond own (command.1 ∷ calls_of worker commands) (calls_of worker commands))
       by_test true others = (may.0, others)
       by_test false others = others
 
   -- where a caller takes a call, the others may begin
-  left-others : (left : ℕ → List Call) (c k : ℕ) (calls : List Call) → AllByRecursion MayBegin calls
-      → AllByRecursion MayBegin (left k) → AllByRecursion MayBegin (left_at left c calls k)
+  left-others : (left : ℕ → List Call) (c k : ℕ) (calls : List Call) → AllByRecursion IsAdmittedCall calls
+      → AllByRecursion IsAdmittedCall (left k) → AllByRecursion IsAdmittedCall (left_at left c calls k)
   left-others left c k calls here there = by_test (k == c)
     where
-      by_test : (own : Bool) → AllByRecursion MayBegin (cond own calls (left k))
+      by_test : (own : Bool) → AllByRecursion IsAdmittedCall (cond own calls (left k))
       by_test true = here
       by_test false = there
 
 module _ {M : Type 0} (mix : ℕ → ℕ → ℕ → ℕ) (env : Env) where
   -- the run of these events leaves what the replay has, and each call that is left may begin
   record IsLed (p : Playing M) (events : List Event) : Type 0 where
-    admitted : IsAdmitted env.config.kind events
+    admitted : IsAdmitted events
     same : (run_of {M = M} mix env events).core ≡ p.core
-    left : (c : ℕ) → AllByRecursion (MayBegin env) (p.left c)
+    left : (c : ℕ) → AllByRecursion (IsAdmittedCall) (p.left c)
 
   -- ---- one event
 
   -- one event more of the run
-  push-led : (p q : Playing M) (events : List Event) (event : Event) → IsLed p events → IsAdmittedEvent env.config.kind event
-      → q.core ≡ (core_step mix p.core event).0 → ((c : ℕ) → AllByRecursion (MayBegin env) (q.left c)) → IsLed q (events ++ event ∷ [])
+  push-led : (p q : Playing M) (events : List Event) (event : Event) → IsLed p events → IsAdmittedEvent event
+      → q.core ≡ (core_step mix p.core event).0 → ((c : ℕ) → AllByRecursion (IsAdmittedCall) (q.left c)) → IsLed q (events ++ event ∷ [])
   push-led p q events event led may is left = record {
-    admitted = AllByRecursion-append (IsAdmittedEvent env.config.kind) events (event ∷ []) led.admitted (may, tt);
+    admitted = AllByRecursion-append IsAdmittedEvent events (event ∷ []) led.admitted (may, tt);
     same =
         ap (λ (w : World M). w.core) (run_of-push M mix env events event)
         ∙ ap (λ (k : Core M). (core_step mix k event).0) led.same ∙ sym is;
@@ -85,10 +81,10 @@ module _ {M : Type 0} (mix : ℕ → ℕ → ℕ → ℕ) (env : Env) where
   none-led p events led = subst (IsLed p) (sym (append-nil events)) led
 
   given-led : (p : Playing M) (c : ℕ) (calls : List Call) (events : List Event) → c < 2 ^ 32 → IsLed p events
-      → AllByRecursion (MayBegin env) calls → IsLed (given mix p c calls) (events ++ given_events c calls)
+      → AllByRecursion (IsAdmittedCall) calls → IsLed (given mix p c calls) (events ++ given_events c calls)
   given-led p c [] events small led may = none-led p events led
   given-led p c (call ∷ calls) events small led may =
-      push-led p (given mix p c (call ∷ calls)) events (Begin c call) led (small, may.0.0, may.0.1) refl
+      push-led p (given mix p c (call ∷ calls)) events (Begin c call) led (small, may.0) refl
       (λ k. left-others env p.left c k calls may.1 (led.left k))
 
   readied-led : (p : Playing M) (c : ℕ) (events : List Event) → c < 2 ^ 32 → IsLed p events
@@ -183,7 +179,7 @@ module _ {M : Type 0} (mix : ℕ → ℕ → ℕ → ℕ) (env : Env) where
 
   -- ---- the beginning
 
-  begins-led : (commands : List (ℕ × Call)) → AllByRecursion (λ command. MayBegin env command.1) commands
+  begins-led : (commands : List (ℕ × Call)) → AllByRecursion (λ command. IsAdmittedCall command.1) commands
       → IsLed (playing_from mix env commands) (replicate env.geometry.callers Enroll)
   begins-led commands may = record {
     admitted = enrolls-admitted env env.geometry.callers;
@@ -248,7 +244,7 @@ module _ {M : Type 0} (mix : ℕ → ℕ → ℕ → ℕ) {B C : Type 0} (kept :
 
 -- a replay of lines for its workers and of commands that may begin is a run
 pub replay-runs : (M : Type 0) (mix : ℕ → ℕ → ℕ → ℕ) (env : Env) (script : Script)
-    → AllByRecursion (λ command. MayBegin env command.1) script.commands.items
+    → AllByRecursion (λ command. IsAdmittedCall command.1) script.commands.items
     → AllByRecursion (IsLineFor env.geometry.callers) script.schedule.items → IsInRun M mix env script
 replay-runs M mix env script may for =
     let p = playing_from {M = M} mix env script.commands.items in

@@ -6,26 +6,23 @@ use Rattle.std.specs.List.{AllByRecursion, list_all}
 use Rattle.std.proofs.lemmas.Bool.{leb-true, ltb-true, eq-eqb, eqb-true}
 use Rattle.std.proofs.lemmas.List.Elements.{All-from_recursion}
 use Rattle.rht_words.specs.declared.config.Config.{Config}
-use Rattle.rht_words.specs.declared.config.Kind.{Kind}
-use Rattle.rht_words.specs.declared.config.Kind.TheVariants.{Single, Listed}
 use Rattle.rht_words.specs.declared.limits.Limits.{Limits}
 use Rattle.rht_words.specs.Ports.{IsPort, net_of}
 use Rattle.rht_words.specs.Settled.{IsSettled}
 use Rattle.rht_model.specs.declared.history.Call.{Call}
 use Rattle.rht_model.specs.declared.history.Call.TheVariants.{Bind, Find, All, Release, Rebind, Walk, Work, Tidy, Count}
-use Rattle.rht_core.specs.Runs.{IsAdmittedCall, IsBuiltFor}
+use Rattle.rht_core.specs.Runs.{IsAdmittedCall}
 use Rattle.rht_core.specs.Serving.{calls_of}
 use Rattle.rht_script.specs.CommandLines.{owner_limits, worker_limits}
 use Rattle.rht_script.specs.PortWords.{net_and_number, is_port_in}
-use Rattle.rht_script.specs.Sound.{is_single, is_sound_call, has_sound_numbers, is_sound_command}
+use Rattle.rht_script.specs.Sound.{is_sound_call, has_sound_numbers, is_sound_command}
 use Rattle.rht_script.specs.Spelling.{is_within}
 
--- the command is one of so many workers', and its call can be run in a table of this config, and so is one for its kind
+-- the command is one of so many workers', and its call is sound for a table of this config
 pub record IsCommandFor (config : Config) (command : ℕ × Call) : Type 0 where
   pub first : 1 ≤ command.0
   pub last : command.0 ≤ config.callers
   pub sound : is_sound_call config command.1 ≡ true
-  pub kind : IsBuiltFor config.kind command.1
 
 -- both of two tests hold
 both_true : (first second : Bool) → IsTrue (first && second) → (first ≡ true) × (second ≡ true)
@@ -39,21 +36,6 @@ sound-parts : (form : ℕ) (config : Config) (command : ℕ × Call) → IsTrue 
 sound-parts form config command sound =
     let first = both_true (is_within (worker_limits config) command.0) (has_sound_numbers form command.1 && is_sound_call config command.1) sound in
     let others = both_true (has_sound_numbers form command.1) (is_sound_call config command.1) first.1 in (first.0, others.0, others.1)
-
-single-not_listed : (kind : Kind) → is_single kind ≡ true → kind ≢ Listed
-single-not_listed Single single listed = cc
-single-not_listed Listed single listed = cc
-
-sound-built : (config : Config) (call : Call) → is_sound_call config call ≡ true → IsBuiltFor config.kind call
-sound-built config (Bind port owner once) sound = tt
-sound-built config (Find port) sound = tt
-sound-built config (All port) sound = tt
-sound-built config (Release port owner) sound = tt
-sound-built config (Rebind port owner new) sound = single-not_listed config.kind sound
-sound-built config (Walk from limit) sound = tt
-sound-built config Work sound = tt
-sound-built config Tidy sound = tt
-sound-built config Count sound = tt
 
 -- a number within limits is below what is above them
 below-limits : (limits : Limits) (number end : ℕ) → limits.greatest < end → is_within limits number ≡ true → number < end
@@ -104,20 +86,19 @@ sound-commands form config (command ∷ commands) sound =
         first = leb-true _ _ bounds.0;
         last = leb-true _ _ bounds.1;
         sound = parts.2;
-        kind = sound-built config command.1 parts.2;
       },
       sound-commands form config commands first_and_others.1,
     )
 
--- and so each has numbers of its types, and is one for a table of the kind
+-- and so each has numbers of its types
 pub sound-calls : (form : ℕ) (config : Config) (commands : List (ℕ × Call)) → IsSettled config
     → IsTrue (list_all (is_sound_command form config) commands)
-    → AllByRecursion (λ command. IsAdmittedCall command.1 × IsBuiltFor config.kind command.1) commands
+    → AllByRecursion (λ command. IsAdmittedCall command.1) commands
 sound-calls form config [] settled sound = tt
 sound-calls form config (command ∷ commands) settled sound =
     let first_and_others = both_true (is_sound_command form config command) (list_all (is_sound_command form config) commands) sound in
     let parts = sound-parts form config command first_and_others.0 in (
-      (sound-admitted form config command.1 settled parts.1 parts.2, sound-built config command.1 parts.2),
+      sound-admitted form config command.1 settled parts.1 parts.2,
       sound-calls form config commands settled first_and_others.1,
     )
 

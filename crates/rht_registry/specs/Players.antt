@@ -6,7 +6,7 @@ use Rattle.rht_words.specs.declared.env.Env.{Env}
 use Rattle.rht_io.specs.Told.{Rose, AppendsPrefix, Puts}
 use Rattle.rht_model.specs.declared.history.Call.{Call}
 use Rattle.rht_core.specs.declared.event.Event.TheVariants.{Enroll}
-use Rattle.rht_core.specs.Runs.{Core, run_of, IsBuiltFor}
+use Rattle.rht_core.specs.Runs.{Core, run_of}
 use Rattle.rht_core.specs.Serving.{calls_of}
 use Rattle.rht_script.specs.declared.script.Script.{Script}
 use Rattle.rht_script.specs.declared.script.Sched.{Sched}
@@ -30,10 +30,9 @@ module _ {M : Type 0} where
   abbrev pub AreEnrolled : (ℕ → ℕ → ℕ → ℕ) → Core M → Type 0
   AreEnrolled mix core = core ≡ (run_of mix core.env (replicate core.env.geometry.callers Enroll)).core
 
-  -- each caller has a place, and each command is one for a table of this kind
-  pub record CanPlay (commands : List (ℕ × Call)) (player : Player M) : Type 0 where
+  -- each caller has a place
+  pub record CanPlay (player : Player M) : Type 0 where
     pub places : length player.next.items ≡ player.state.env.geometry.callers
-    pub built : AllByRecursion (λ command. IsBuiltFor player.state.env.config.kind command.1) commands
 
   -- a caller took its next command, where it had one
   abbrev pub Takes : Playing M → Playing M → ℕ → Option Call → Type 0
@@ -46,7 +45,7 @@ module _ {M : Type 0} where
       (commands : List (ℕ × Call)) (part : Playing M × List ℕ) (before after : Player M) : Type 0 where
     pub put : Puts held faults old new r part.1
     pub now : OnOk r (playing_of commands after ≡ part.0)
-    pub can : OnOk r (CanPlay commands after)
+    pub can : OnOk r (CanPlay after)
     pub env : OnOk r (after.state.env ≡ before.state.env)
 
 -- the line is one of so many workers'

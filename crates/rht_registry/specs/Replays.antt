@@ -219,8 +219,8 @@ module _ (M : Type 0) (mix : ℕ → ℕ → ℕ → ℕ) (env : Env) (script : 
       replicate env.geometry.callers Enroll
       ++ (schedule_with {M = M} mix (events_at mix) script.schedule.items (playing_from mix env script.commands.items)).1
 
-  -- These are the events of a run, in which each number is of its type and each call one for a table of this kind. That run ends
-  -- where the replay does, so whatever is so in every run is so of it.
+  -- These are the events of a run, in which each number is of its type. That run ends where the replay does, so whatever is so in
+  -- every run is so of it.
   pub record IsInRun : Type 0 where
-    pub admitted : IsAdmitted env.config.kind replay_events
+    pub admitted : IsAdmitted replay_events
     pub end : (run_of {M = M} mix env replay_events).core ≡ replayed.0.core

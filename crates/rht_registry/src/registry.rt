@@ -6,7 +6,6 @@ ghost use Rattle.std.specs.List.{enumerate_from};
 ghost use Rattle.rht_policy.specs.Mix.{mix_named};
 ghost use Rattle.rht_model.specs.declared.history.Call.{Call as CallOf};
 ghost use Rattle.rht_core.specs.Locals.{is_idle};
-ghost use Rattle.rht_core.specs.Runs.{IsBuiltFor};
 ghost use Rattle.rht_run.specs.Passes.{IsPassOf, IsNew, AreNew};
 ghost use Rattle.rht_script.specs.Sound.{IsSoundScript};
 ghost use Rattle.rht_registry.specs.Outcomes.{CanServe, HasServedWorker, HaveServed, IsOutcome, side_by_side};

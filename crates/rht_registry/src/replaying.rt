@@ -78,7 +78,7 @@ fn play_schedule<M: Mix, O: Sink>(
     commands: &[(u32, Call)],
     schedule: &[Sched],
 ) -> Result<(), Failed>
-    requires can { CanPlay commands.now player.old }
+    requires can { CanPlay player.old }
     requires lines { AllByRecursion (IsLineFor player.old.state.env.geometry.callers) schedule.now }
     ensures { Plays O.held O.faults out.old out.new result commands.now
         (schedule_played M.mix_of schedule.now (playing_of commands.now player.old)) player.old player.new }
@@ -96,7 +96,7 @@ fn play_line<M: Mix, O: Sink>(
     commands: &[(u32, Call)],
     line: Sched,
 ) -> Result<(), Failed>
-    requires can { CanPlay commands.now player.old }
+    requires can { CanPlay player.old }
     requires line { IsLineFor player.old.state.env.geometry.callers line }
     ensures { Plays O.held O.faults out.old out.new result commands.now
         (line_played M.mix_of line (playing_of commands.now player.old)) player.old player.new }
@@ -117,7 +117,7 @@ fn play_steps<M: Mix, O: Sink>(
     number: u32,
     shown: bool,
 ) -> Result<(), Failed>
-    requires can { CanPlay commands.now player.old }
+    requires can { CanPlay player.old }
     requires first { 1 ≤ worker }
     requires last { worker ≤ player.old.state.env.geometry.callers }
     ensures { Plays O.held O.faults out.old out.new result commands.now
@@ -142,7 +142,7 @@ fn play_finish<M: Mix, O: Sink>(
     worker: u32,
     number: u32,
 ) -> Result<(), Failed>
-    requires can { CanPlay commands.now player.old }
+    requires can { CanPlay player.old }
     requires first { 1 ≤ worker }
     requires last { worker ≤ player.old.state.env.geometry.callers }
     ensures { Plays O.held O.faults out.old out.new result commands.now
@@ -167,12 +167,12 @@ fn is_finished<M: Mix>(
     caller: u32,
     calls: u32,
 ) -> bool
-    requires can { CanPlay commands.now player.old }
+    requires can { CanPlay player.old }
     requires caller { caller + 1 ≤ player.old.state.env.geometry.callers }
     ensures finished { result ≡ (calls == 0 || (playing_of commands.now player.old).over
         || is_through (playing_of commands.now player.old) caller) }
     ensures playing { playing_of commands.now player.new ≡ playing_of commands.now player.old }
-    ensures can { CanPlay commands.now player.new }
+    ensures can { CanPlay player.new }
 {
     if calls == 0 || player.over {
         return true;

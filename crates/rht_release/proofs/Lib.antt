@@ -2,6 +2,8 @@
 pub mod FoundPortsStay
 -- the way to a port stays in its table, and on which words it works
 pub mod SeekStays
+-- the search of a list stays in its table, and on which words it works
+pub mod ListSearchStays
 -- whatever words it is told, a release stays in its table
 pub mod ReleaseStays
 -- on which words a release works
@@ -16,6 +18,8 @@ pub mod AllStays
 pub mod AllPlanned
 -- the way to a port
 pub mod Seeks
+-- along the list of a port's nodes, to the first one with an owner
+pub mod ListSearches
 -- the stores of a release that take a node out
 pub mod ReleaseStores
 -- what a release knows in each state
@@ -26,7 +30,7 @@ pub mod ReleaseLists
 pub mod ReleaseSteps
 -- what a rebind knows in each state
 pub mod RebindKnowledge
--- the store of a rebind, which puts its node in the place of the old one
+-- the stores of a rebind that put its node in the place of the old one
 pub mod RebindStores
 -- a rebind, operation by operation
 pub mod RebindSteps

@@ -22,13 +22,13 @@ use Rattle.rht_release.specs.declared.rebind.RebindAt.TheVariants as at
 use Rattle.rht_model.specs.Replies.{IsRebindReply, AreOwnersWith}
 use Rattle.rht_ghost.proofs.Pieces.Locates.{IsThereFor}
 use Rattle.rht_ghost.proofs.Theory.Ghosts.{Ghost}
-use Rattle.rht_ghost.proofs.Theory.Knowns.{KnownNode, Nowhere, KnownBucket, Unlocked, Locks, Leads, LeadsTo, Succeeds, Known, knows_plain, KnownList}
+use Rattle.rht_ghost.proofs.Theory.Knowns.{KnownNode, Nowhere, KnownBucket, Unlocked, Locks, LocksTakenOut, Matching, LinkBehind, Copied, CopiedTo, Succeeds, Known, knows_plain, KnownList}
 use Rattle.rht_ghost.proofs.Theory.Knowledge.{Knowing}
 use Rattle.rht_ghost.proofs.Theory.Answering.{IsRight}
 use Rattle.rht_ghost.proofs.Theory.Steps.{Holding, mem, StepWhere}
 use Rattle.rht_ghost.proofs.Pieces.NewNodes as nodes
 use Rattle.rht_release.proofs.Seeks as seeks
-use Rattle.rht_release.proofs.Seeks.{in_list}
+use Rattle.rht_release.proofs.ListSearches.{knows_list, known_search}
 use Rattle.rht_ghost.proofs.Pieces.Relinks.{relinking}
 use Rattle.rht_release.proofs.ReleaseStores.{here, locks_taken}
 use Rattle.rht_release.proofs.ReleaseKnowledge.{known_removed}
@@ -38,17 +38,21 @@ module _ (port owner new : ℕ) where
   abbrev pub own : ℕ → KnownNode
   own n = nodes.filled n port new
 
+  -- and with another list link, which is the one behind the old node
+  abbrev pub copied : ℕ → KnownNode
+  copied n = record (own n) { list = None }
+
   -- what it knows of its node, and of the bucket that it has locked
   abbrev pub knows_of : ℕ → KnownBucket → Known
   knows_of n bucket = knows_plain (Some (own n)) Nowhere bucket
 
   -- and of the list of the port, to whose bucket it has come
-  abbrev pub listed : ℕ → FoundPort → KnownList → Known
-  listed n found known = knows_plain (Some (own n)) (seeks.home_of port found) (in_list port found known)
+  abbrev pub listed : KnownNode → FoundPort → KnownList → Known
+  listed node found known = knows_list (Some node) port found known
 
   -- before the store that puts its node in the place of the old one; and behind it, when that is taken out
   abbrev pub known_replacing : ℕ → FoundPort → Bool → Known
-  known_replacing n found false = listed n found (Succeeds n owner)
+  known_replacing n found false = listed (copied n) found (Succeeds n owner)
   known_replacing n found true = here (locks_taken found found.node)
 
   -- what a rebind knows in a state
@@ -57,13 +61,17 @@ module _ (port owner new : ℕ) where
       knows_plain (nodes.known_at port new fresh.at) Nowhere Unlocked
   known_of_rebind (at.Opening n) = knows_of n Unlocked
   known_of_rebind (at.Seeking n seek) = seeks.known_of_seek port (Some (own n)) seek.at
-  known_of_rebind (at.Owner n found) =
-      knows_plain (Some (own n)) (seeks.home_of port found) (seeks.known_port port found)
-  known_of_rebind (at.ChainLink n found) = listed n found (Leads None owner)
-  known_of_rebind (at.Link n found link) = listed n found (LeadsTo None link owner)
+  known_of_rebind (at.Searching n found search) = listed (own n) found (known_search owner search)
+  known_of_rebind (at.LinkBehind n found old before) = listed (own n) found (Matching old before owner)
+  known_of_rebind (at.OwnListLink n found old before link) = listed (own n) found (LinkBehind old before link owner)
+  known_of_rebind (at.Swapping n found old before) = listed (copied n) found (Copied old (Some before) n owner)
+  known_of_rebind (at.ChainLink n found) = listed (copied n) found (Copied found.node None n owner)
+  known_of_rebind (at.Link n found link) = listed (copied n) found (CopiedTo n link owner)
   known_of_rebind (at.Replacing n found relink) =
       known_replacing n found (has_relinked found.before relink.at)
-  known_of_rebind (at.Unlocking n table unlock) = knows_of n (Locks unlock.place unlock.word)
+  known_of_rebind (at.Unlocking table unlock (ends.Rebound removed)) =
+      here (LocksTakenOut unlock.place unlock.word removed)
+  known_of_rebind (at.Unlocking table unlock (ends.Absent n)) = knows_of n (Locks unlock.place unlock.word)
   known_of_rebind (at.Closing (ends.Rebound removed)) = known_removed (Some removed)
   known_of_rebind (at.Closing (ends.Absent n)) = knows_of n Unlocked
   known_of_rebind (at.Giving give) = knows_of give.node Unlocked
@@ -87,12 +95,15 @@ module _ (env : Env) (mix : ℕ → ℕ → ℕ → ℕ) (c : ℕ) (port owner n
   fits_rebind (at.Filling fresh) = (fresh.key ≡ port) × (fresh.owner ≡ new)
   fits_rebind (at.Opening n) = Unit {0}
   fits_rebind (at.Seeking n seek) = seeks.fits_seek port seek.at
-  fits_rebind (at.Owner n found) = Unit {0}
+  fits_rebind (at.Searching n found search) = Unit {0}
+  fits_rebind (at.LinkBehind n found old before) = Unit {0}
+  fits_rebind (at.OwnListLink n found old before link) = Unit {0}
+  fits_rebind (at.Swapping n found old before) = Unit {0}
   fits_rebind (at.ChainLink n found) = Unit {0}
   fits_rebind (at.Link n found link) = Unit {0}
   fits_rebind (at.Replacing n found relink) =
       relink ≡ replaces env n found (has_relinked found.before relink.at)
-  fits_rebind (at.Unlocking n table unlock) = Unit {0}
+  fits_rebind (at.Unlocking table unlock end) = Unit {0}
   fits_rebind (at.Closing end) = Unit {0}
   fits_rebind (at.Giving give) = Unit {0}
 

@@ -1,56 +1,63 @@
 -- A rebind, operation by operation: each leads from what it knows to what it knows next.
-use Rattle.std.proofs.Common.{◌≡◌, ℕ, ◌^◌, ◌<◌, ◌==◌, List, [], ◌∷◌, length, Option, Some, None, Bool, true, false, cond, refl, sym, ◌∙◌, ap, subst, inl, inr}
-use Rattle.std.proofs.lemmas.Bool.{cases_eq, eqb-true}
+use Rattle.std.proofs.Common.{◌≡◌, ℕ, ◌^◌, ◌<◌, List, ◌∷◌, length, Option, Some, None, Bool, true, false, refl, sym, ◌∙◌, ap, subst, inl, inr}
+use Rattle.std.proofs.lemmas.Bool.{cases_eq}
 use Rattle.rht_words.specs.declared.env.Env.{Env}
-use Rattle.rht_words.specs.declared.config.Kind.TheVariants.{Single}
+use Rattle.rht_words.specs.declared.op.Op.TheVariants.{Store}
 use Rattle.rht_words.specs.declared.machine.Next.{Next}
 use Rattle.rht_words.specs.declared.machine.Next.TheVariants.{Go, Done}
 use Rattle.rht_words.specs.Held as held
 use Rattle.rht_words.specs.Links.{link_of}
-use Rattle.rht_words.specs.Ports.{owner_of}
 use Rattle.rht_words.specs.Operations.{old_of, applied}
-use Rattle.rht_words.specs.Places.{Node, ChainLink, OwnerWord, words_in}
+use Rattle.rht_words.specs.Places.{Node, ChainLink, ListLink, words_in}
+use Rattle.rht_words.specs.Members.{NotIn}
 use Rattle.rht_words.proofs.Memory.{Memory}
 use Rattle.rht_arena.specs.NewNode.{NewNodeModel, new_node_plan, new_node_after, node_of_new}
 use Rattle.rht_arena.specs.declared.new_node.NewNodeAt.{NewNodeAt}
 use Rattle.rht_chain.specs.LockedWalk.{IsNodeOrNone}
 use Rattle.rht_chain.specs.Relink.{RelinkModel}
+use Rattle.rht_chain.specs.declared.unlock.Unlock.{Unlock}
 use Rattle.rht_model.specs.declared.history.Call.{Call}
 use Rattle.rht_model.specs.declared.history.Call.TheVariants as calls
 use Rattle.rht_model.specs.declared.history.Reply.{Reply}
 use Rattle.rht_model.specs.declared.history.Reply.TheVariants.{Rebound, Absent, NoNode}
 use Rattle.rht_model.specs.Multimap.{Multimap}
-use Rattle.rht_model.specs.Answers.{plain, rebind_reply, owners_rebound, bindings_after}
+use Rattle.rht_model.specs.Answers.{plain, owners_rebound, bindings_after}
 use Rattle.rht_model.proofs.CallEffects.{with_owners-same, with_owners-other}
+use Rattle.rht_model.proofs.ReboundOwners.{rebind_reply-none, owners_rebound-none}
 use Rattle.rht_release.specs.FoundPort.{relink_of}
-use Rattle.rht_release.specs.Rebind.{plan_at, filled, sought, owner_compared, IsRebindAtIn}
+use Rattle.rht_release.specs.ListSearch.{search_plan, search_after}
+use Rattle.rht_release.specs.Rebind.{plan_at, filled, sought, searched, IsRebindAtIn}
 use Rattle.rht_release.specs.RebindHeld.{held_of_rebind, holds_outside, holds_node, holds_found, holds_replacing}
 use Rattle.rht_release.specs.Seek.{SeekModel, seek_plan, seek_after, holds_section}
 use Rattle.rht_release.specs.declared.found_port.FoundPort.{FoundPort}
+use Rattle.rht_release.specs.declared.list_search.ListPlace.{ListPlace}
+use Rattle.rht_release.specs.declared.list_search.ListSearch.{ListSearch}
+use Rattle.rht_release.specs.declared.rebind.RebindEnd.{RebindEnd}
 use Rattle.rht_release.specs.declared.rebind.RebindEnd.TheVariants as ends
 use Rattle.rht_release.specs.declared.rebind.RebindAt.{RebindAt}
 use Rattle.rht_release.specs.declared.rebind.RebindAt.TheVariants as at
 use Rattle.rht_ghost.proofs.Theory.Ghosts.{Ghost}
 use Rattle.rht_ghost.proofs.Theory.Wholes.{Whole}
-use Rattle.rht_ghost.proofs.Theory.Knowns.{KnownNode, Nowhere, Unlocked, LeadsTo, first_of_list}
+use Rattle.rht_ghost.proofs.Theory.Knowns.{KnownNode, Nowhere, Unlocked, TakenOut, LocksTakenOut, LinkBehind, Copied, CopiedTo, list_link}
 use Rattle.rht_ghost.proofs.Theory.Knowledge.{plainly, Knowing}
 use Rattle.rht_ghost.proofs.Theory.Answering.{IsLegalOn, IsRight, keeps, learns}
-use Rattle.rht_ghost.proofs.Theory.Steps.{answered-map, Holding, by_test, mem, owners, owners_in, SilentStep, StepWhere, step-map, reads, still_has}
+use Rattle.rht_ghost.proofs.Theory.Steps.{answered-map, Holding, mem, owners, SilentStep, silent-map, Step, StepWhere, step-map, reads, still_has}
 use Rattle.rht_ghost.proofs.Pieces.Locates.{IsThereFor}
 use Rattle.rht_ghost.proofs.Pieces.NewNodes as nodes
 use Rattle.rht_ghost.proofs.Pieces.Locks.{unlock_step, unlock_taken}
 use Rattle.rht_ghost.proofs.Pieces.OwnSections.{open_step, close_step}
-use Rattle.rht_ghost.proofs.Pieces.Lists.{found_list}
 use Rattle.rht_release.proofs.Seeks as seeks
 use Rattle.rht_release.proofs.Seeks.{in_list}
 use Rattle.rht_ghost.proofs.Pieces.Relinks.{unstored, relinking_so}
-use Rattle.rht_release.proofs.RebindKnowledge.{own, knows_of, known_replacing, replaces, with_node}
-use Rattle.rht_release.proofs.ReleaseKnowledge.{known_removed}
+use Rattle.rht_release.proofs.ListSearches.{first_among, list_more, search_begins, behind_knows}
+use Rattle.rht_release.proofs.ListSearches as searches
+use Rattle.rht_release.proofs.RebindKnowledge.{own, copied, knows_of, listed, known_replacing, replaces, with_node}
+use Rattle.rht_release.proofs.ReleaseKnowledge.{known_removed, behind_node}
 use Rattle.rht_release.proofs.RebindKnowledge as rebinds
 use Rattle.rht_release.proofs.RebindStores as stores
 
 module _ (env : Env) (mix : ℕ → ℕ → ℕ → ℕ) (c : ℕ) (port owner new : ℕ)
-    (single : env.config.kind ≡ Single) (small : new < 2 ^ 32) (low : c < env.geometry.callers)
+    (small : new < 2 ^ 32) (low : c < env.geometry.callers)
     (words : List ℕ) (G : Ghost) (all : length words ≡ words_in env.geometry)
     (whole : Whole env mix (mem env mix words) G) where
   abbrev call : Call
@@ -84,16 +91,15 @@ module _ (env : Env) (mix : ℕ → ℕ → ℕ → ℕ) (c : ℕ) (port owner n
   no_node_legal : IsLegalOn env.config.kind c call now (plain NoNode)
   no_node_legal = record { legal = inr (tt, refl); leaves = λ p. refl }
 
-  -- where a port has these owners, of which the old one isn't the only one
-  absent_legal : (bound : List ℕ) → now port ≡ bound → rebind_reply owner bound ≡ Absent
-      → owners_rebound owner new bound ≡ bound → IsLegalOn env.config.kind c call now (plain Absent)
-  absent_legal bound is reply same = record {
-    legal = inl (ap (λ reply. Some (plain reply)) (ap (rebind_reply owner) is ∙ reply));
+  -- where the port isn't bound to the old owner
+  absent_legal : NotIn owner (now port) → IsLegalOn env.config.kind c call now (plain Absent)
+  absent_legal none = record {
+    legal = inl (ap (λ reply. Some (plain reply)) (rebind_reply-none owner (now port) none));
     leaves = λ other. elim (cases_eq other port) [
       | inl e ↦
           ap (bindings_after env.config.kind now call) e
           ∙ with_owners-same now port (owners_rebound owner new (now port))
-          ∙ ap (owners_rebound owner new) is ∙ same ∙ sym is ∙ ap now (sym e)
+          ∙ owners_rebound-none owner new (now port) none ∙ ap now (sym e)
       | inr ne ↦ with_owners-other now port other (owners_rebound owner new (now port)) ne
     ];
   }
@@ -141,7 +147,7 @@ module _ (env : Env) (mix : ℕ → ℕ → ℕ → ℕ) (c : ℕ) (port owner n
 
   -- ---- the way to the port
 
-  -- where the port was found its owner is loaded, and where it wasn't the node is given back
+  -- where the port was found its list is looked through, and where it wasn't the node is given back
   seek_next : (n : ℕ) (seek : SeekModel) (r : SeekModel × Next (Option FoundPort))
       → StepWhere env mix
       (seeks.seek_there (Some n) (plain Absent) port (Some (own port owner new n)) seek.at M)
@@ -158,78 +164,123 @@ module _ (env : Env) (mix : ℕ → ℕ → ℕ → ℕ) (c : ℕ) (port owner n
       step-map env mix (λ M' G' w k. record { knowing = k; fits = tt }) step
   seek_next n seek (next, Done (Some found)) step =
       step-map env mix (λ M' G' w k. record {
-        knowing = plainly env mix k.only k.means.node k.means.table k.means.bucket;
+        knowing =
+            search_begins env mix c (holds_found n found) (Some (own port owner new n)) port M' G' w owner found k;
         fits = tt;
       }) step
 
-  -- ---- the old owner
+  -- ---- along the list
 
-  -- the port that was found has one node
-  record IsAlone (m : ℕ) : Type 0 where
-    behind : List ℕ
-    bound_to : G.bound port ≡ m ∷ behind
-    alone : behind ≡ []
+  abbrev SearchNext : ℕ → FoundPort → ListSearch × Next (Option ListPlace) → Memory → Ghost → Type 0
+  SearchNext n = searches.SearchNext env mix c call port owner (Some n) (Some (own port owner new n)) (plain Absent)
 
-  alone_in : (n : ℕ) (found : FoundPort) → RebindKnows (at.Owner n found) M G → IsAlone found.node
-  alone_in n found known =
-      let bucket = found.bucket in
-      let there = known.knowing.means.bucket in
-      let list =
-      found_list env mix M G whole c bucket.place bucket.word port found.node found.before there in
-      record {
-        behind = list.0;
-        bound_to = list.1;
-        alone = whole.owned.single single port found.node list.0 list.1;
-      }
+  abbrev search_holds : ℕ → FoundPort → Next (Option ListPlace) → Holding
+  search_holds n =
+      searches.search_holds env mix c call port owner (Some n) (Some (own port owner new n)) (plain Absent)
 
-  -- the owner of the node that was found
-  abbrev first_of : FoundPort → ℕ
-  first_of found = owner_of (M (Node found.node OwnerWord))
+  -- it goes on, or has come to the node with the old owner, or behind the last one
+  searched_step : (n : ℕ) (found : FoundPort) (search : ListSearch) (r : ListSearch × Next (Option ListPlace))
+      → Step env mix c call words G (search_plan env.geometry search) (holds_found n found) (search_holds n found r.1)
+      (SearchNext n found r)
+      → RebindMoved (at.Searching n found search) (searched n found r.0 r.1, Go)
+  searched_step n found search (next, Go) step =
+      step-map env mix (λ M' G' w k. record { knowing = k; fits = tt }) step
+  searched_step n found search (next, Done None) step =
+      step-map env mix (λ M' G' w k. record { knowing = k; fits = tt }) step
+  searched_step n found search (next, Done (Some place)) step =
+      step-map env mix (λ M' G' w k. record { knowing = k; fits = tt }) step
 
-  -- where it is the old one, the node is to be replaced
-  owner_same : (n : ℕ) (found : FoundPort) → RebindKnows (at.Owner n found) M G → first_of found ≡ owner
-      → RebindMoved (at.Owner n found) (at.ChainLink n found, Go)
-  owner_same n found known same =
-      let list = alone_in n found known in
+  searching : (n : ℕ) (found : FoundPort) (search : ListSearch) → RebindKnows (at.Searching n found search) M G
+      → RebindStep (at.Searching n found search)
+  searching n found search known =
+      searched_step n found search (search_after env.geometry owner search (old_of words (search_plan env.geometry search)))
+      (searches.search_step env mix c call port owner (Some n) (Some (own port owner new n)) (plain Absent) words G all whole
+      absent_legal (absent_right n) refl found search known.knowing)
+
+  -- which link is behind the old node
+  behind_step : (n : ℕ) (found : FoundPort) (old : ℕ) (before : Option ℕ)
+      → RebindKnows (at.LinkBehind n found old before) M G → RebindStep (at.LinkBehind n found old before)
+  behind_step n found old before known =
       reads env mix whole refl refl (inl refl) (record {
         knowing =
-            plainly env mix known.knowing.only known.knowing.means.node known.knowing.means.table (record {
-              found = known.knowing.means.bucket;
-              behind = list.behind;
-              bound_to = list.bound_to;
-              means = record { owner_is = same; second_is = sym (ap first_of_list list.alone) };
+            behind_knows env mix c (holds_found n found) (Some (own port owner new n)) port M G whole owner found old before
+            known.knowing;
+        fits = tt;
+      })
+
+  -- ---- the node gets the links of the old one
+
+  -- what it holds beside its node
+  abbrev locked : FoundPort → Holding
+  locked found = record holds_section { lock = Some found.bucket.place }
+
+  -- then its node has the link that is behind the old one in the list
+  has_copied : (n : ℕ) (found : FoundPort) (old : ℕ) (before : Option ℕ) (link : ℕ) (M' : Memory) (G' : Ghost)
+      → Knowing env mix c (holds_found n found)
+      (listed port owner new (nodes.with_word (own port owner new n) ListLink link) found (LinkBehind old before link owner)) M' G'
+      → stores.KnowsList env mix c port owner new n found (Copied old before n owner) M' G'
+  has_copied n found old before link M' G' k =
+      let node = k.means.node in
+      let is = k.means.bucket in
+      plainly env mix k.only
+      (record { has = node.has; chain = tt; key = node.key; owner = node.owner; list = tt }) k.means.table (record {
+        found = is.found;
+        behind = is.behind;
+        bound_to = is.bound_to;
+        means = record { is = is.means.is; has = node.has; list_is = node.list ∙ sym is.means.link_is };
+      })
+
+  -- where none is before the old one, that is the first
+  first_copied : (n : ℕ) (found : FoundPort) (old : ℕ) (M' : Memory) (G' : Ghost)
+      → stores.KnowsList env mix c port owner new n found (Copied old None n owner) M' G'
+      → stores.KnowsList env mix c port owner new n found (Copied found.node None n owner) M' G'
+  first_copied n found old M' G' k =
+      let among = k.means.bucket.means.is.stands.among in
+      let nodes = found.node ∷ k.means.bucket.behind in
+      let alone : nodes ≡ old ∷ among.rear = first_among nodes old among in
+      let first : old ≡ found.node = cc in
+      subst (λ x. stores.KnowsList env mix c port owner new n found (Copied x None n owner) M' G') first k
+
+  own_step : (n : ℕ) (found : FoundPort) (old : ℕ) (before : Option ℕ) (link : ℕ)
+      → RebindKnows (at.OwnListLink n found old before link) M G
+      → RebindStep (at.OwnListLink n found old before link)
+  own_step n found old before link known = go before
+      (silent-map env mix (λ M' G' w k. has_copied n found old before link M' G' k)
+      (nodes.fill_step env mix c (locked found) (seeks.home_of port found)
+      (in_list port found (LinkBehind old before link owner)) words G all whole tt (own port owner new n) ListLink link
+      known.knowing))
+    where
+      go : (b : Option ℕ)
+          → SilentStep env mix c words G (plan_at env c (at.OwnListLink n found old b link)) (holds_found n found)
+          (holds_found n found) (stores.KnowsList env mix c port owner new n found (Copied old b n owner))
+          → RebindStep (at.OwnListLink n found old b link)
+      go None step =
+          answered-map env mix None (inl refl) (still_has refl)
+          (λ M' G' w k. record { knowing = first_copied n found old M' G' k; fits = tt }) step
+      go (Some before) step =
+          answered-map env mix None (inl refl) (still_has refl) (λ M' G' w k. record { knowing = k; fits = tt }) step
+
+  -- which link is behind the first node in the chain
+  chain_step : (n : ℕ) (found : FoundPort) → RebindKnows (at.ChainLink n found) M G → RebindStep (at.ChainLink n found)
+  chain_step n found known =
+      let k = known.knowing in
+      let is = k.means.bucket in
+      let among = is.means.is.stands.among in
+      let nodes = found.node ∷ is.behind in
+      let alone : nodes ≡ found.node ∷ among.rear = first_among nodes found.node among in
+      let rest : among.rear ≡ is.behind = cc in
+      let link = M (Node found.node ChainLink) in
+      reads env mix whole refl refl (inl refl) (record {
+        knowing =
+            list_more env mix c (holds_found n found) (Some (copied port owner new n)) port found
+            (Copied found.node None n owner) (CopiedTo n link owner) k (record {
+              owner_is = is.means.is.owner_is;
+              has = is.means.has;
+              list_is = is.means.list_is ∙ ap list_link rest;
+              link_is = refl;
             });
         fits = tt;
       })
-
-  -- another one tells that the port isn't bound to the old owner
-  owner_other : (n : ℕ) (found : FoundPort) → RebindKnows (at.Owner n found) M G
-      → (first_of found == owner) ≡ false
-      → RebindMoved (at.Owner n found) (owner_compared n found false, Go)
-  owner_other n found known other =
-      let first = first_of found in
-      let list = alone_in n found known in
-      let bound : now port ≡ first ∷ [] =
-      ap (owners_in env mix M) (list.bound_to ∙ ap (λ behind. found.node ∷ behind) list.alone) in
-      let legal = absent_legal (first ∷ []) bound (ap (λ t. cond t Rebound Absent) other)
-      (ap (λ t. cond t (new ∷ []) (first ∷ [])) other) in
-      reads env mix whole refl refl
-      (learns env.config.kind c call (Some n) now (plain Absent) (absent_right n) refl legal)
-      (record {
-        knowing =
-            plainly env mix known.knowing.only known.knowing.means.node tt
-            known.knowing.means.bucket.standing.lock;
-        fits = tt;
-      })
-
-  owner_next : (n : ℕ) (found : FoundPort) → RebindKnows (at.Owner n found) M G
-      → RebindStep (at.Owner n found)
-  owner_next n found known =
-      by_test (λ t. RebindMoved (at.Owner n found) (owner_compared n found t, Go)) (first_of found == owner)
-      (λ same. owner_same n found known (eqb-true (first_of found) owner same))
-      (λ other. owner_other n found known other)
-
-  -- ---- the node gets the link of the old one
 
   -- what is held and known of a replacement that stands so
   abbrev ReplacingKnows : ℕ → FoundPort → RelinkModel → Bool → Memory → Ghost → Type 0
@@ -251,29 +302,23 @@ module _ (env : Env) (mix : ℕ → ℕ → ℕ → ℕ) (c : ℕ) (port owner n
   linked : (n : ℕ) (found : FoundPort) (link : ℕ) → RebindKnows (at.Link n found link) M G
       → ReplacingNext n found link false
   linked n found link known =
-      let bucket = in_list port found (LeadsTo None link owner) in
-      let locked : Holding = record holds_section { lock = Some found.bucket.place } in
       answered-map env mix None (inl refl) (still_has refl)
       (λ M' G' w k. let node = k.means.node in let is = k.means.bucket in (
-        plainly env mix k.only (record {
-          has = node.has;
-          chain = tt;
-          key = node.key;
-          owner = node.owner;
-          list = node.list;
-        }) k.means.table (record {
-          found = is.found;
-          behind = is.behind;
-          bound_to = is.bound_to;
-          means = record {
-            leads = is.means.leads;
-            replaces = record { has = node.has; alike = node.chain ∙ sym is.means.link_is };
-          };
-        }),
+        plainly env mix k.only
+            (record { has = node.has; chain = tt; key = node.key; owner = node.owner; list = tt }) k.means.table (record {
+              found = is.found;
+              behind = is.behind;
+              bound_to = is.bound_to;
+              means = record {
+                owner_is = is.means.owner_is;
+                list_is = is.means.list_is;
+                replaces = record { has = node.has; alike = node.chain ∙ sym is.means.link_is };
+              };
+            }),
         refl,
       ))
-      (nodes.fill_step env mix c locked (seeks.home_of port found) bucket words G all whole tt
-      (own port owner new n) ChainLink link known.knowing)
+      (nodes.store_step env mix c (locked found) (seeks.home_of port found) (in_list port found (CopiedTo n link owner))
+      words G all whole (copied port owner new n) ChainLink link (λ e. cc) known.knowing)
 
   link_next : (n : ℕ) (found : FoundPort) (link : ℕ) → RebindKnows (at.Link n found link) M G
       → RebindStep (at.Link n found link)
@@ -284,26 +329,67 @@ module _ (env : Env) (mix : ℕ → ℕ → ℕ → ℕ) (c : ℕ) (port owner n
 
   -- ---- the stores of the replacement
 
-  -- the one behind the first, which unlocks the bucket
-  second_leads : (n : ℕ) (found : FoundPort) (node : ℕ)
-      → stores.LeadsOn env mix c port owner new single small low words G all whole n found (Some node)
-      (replaces env n (record found { before = Some node }) true)
-  second_leads n found node within k =
-      let answer = Some (plain Rebound) in
-      let told : Holding = record holds_section { answer = answer } in
+  -- the bucket of the old node, which was taken out, is unlocked
+  unlock_rebound : (place word removed : ℕ) (r : RebindAt × Next (Reply × Option ℕ))
+      → rebinds.rebind_holds env mix c port owner new r ≡ stores.holds_left None
+      → ((M' : Memory) (G' : Ghost)
+      → stores.KnowsLeft env mix c port owner new None (TakenOut removed) M' G' → RebindNext r M' G')
+      → stores.KnowsLeft env mix c port owner new (Some place) (LocksTakenOut place word removed) M G
+      → Step env mix c call words G (Store place word) (stores.holds_left (Some place))
+      (rebinds.rebind_holds env mix c port owner new r) (RebindNext r)
+  unlock_rebound place word removed r holds next k =
+      let told = stores.holds_left None in
+      rw holds
+      (answered-map env mix told.answer (inl (keeps told.answer)) (still_has refl)
+      (λ M' G' w k. next M' G' k)
+      (unlock_taken env mix c told None Nowhere words G all whole refl place word removed k))
+
+  -- where a replacement stands in the chain, with this node before the old one or none
+  abbrev IsSoOf : ℕ → FoundPort → Option ℕ → RelinkModel → Type 0
+  IsSoOf n found before relink =
+      let state = at.Replacing n (behind_node found before) relink in
+      IsNodeOrNone env.geometry before → RebindKnows state M G → RebindStep state
+
+  replacing_step : (n : ℕ) (found : FoundPort) (relink : RelinkModel) → IsSoOf n found found.before relink
+  replacing_step n found relink within known =
+      relinking_so env.geometry found.bucket.place found.bucket.word (link_of n) (IsSoOf n found) first second
+      found.before relink known.fits within known
+    where
+      first : (b : Option ℕ) → IsSoOf n found b (replaces env n (behind_node found b) false)
+      first None within known =
+          let f = behind_node found None in
+          step-map env mix (λ M' G' w k. record { knowing = k; fits = tt })
+          (stores.chain_store env mix c port owner new small low words G all whole n f within known.knowing)
+      first (Some node) within known =
+          let f = behind_node found (Some node) in
+          step-map env mix (λ M' G' w k. record { knowing = k; fits = refl })
+          (stores.chain_store env mix c port owner new small low words G all whole n f within known.knowing)
+
+      second : (node : ℕ) → IsSoOf n found (Some node) (replaces env n (behind_node found (Some node)) true)
+      second node within known =
+          unlock_rebound found.bucket.place found.bucket.word found.node (at.Closing (ends.Rebound found.node), Go) refl
+          (λ M' G' k. record { knowing = k; fits = tt }) known.knowing
+
+  -- in the list it takes one store
+  swap_step : (n : ℕ) (found : FoundPort) (old before : ℕ) → RebindKnows (at.Swapping n found old before) M G
+      → RebindStep (at.Swapping n found old before)
+  swap_step n found old before known =
+      step-map env mix (λ M' G' w k. record { knowing = k; fits = tt })
+      (stores.swap_store env mix c port owner new small low words G all whole n found old before known.knowing)
+
+  -- then the bucket is unlocked; or behind the last node, where none had the old owner
+  unlocking_step : (table : ℕ) (unlock : Unlock) (end : RebindEnd) → RebindKnows (at.Unlocking table unlock end) M G
+      → RebindStep (at.Unlocking table unlock end)
+  unlocking_step table unlock (ends.Rebound removed) known =
+      unlock_rebound unlock.place unlock.word removed (at.Closing (ends.Rebound removed), Go) refl
+      (λ M' G' k. record { knowing = k; fits = tt }) known.knowing
+  unlocking_step table unlock (ends.Absent n) known =
+      let answer = Some (plain Absent) in
+      let told : Holding = holds_node n None answer in
       answered-map env mix answer (inl (keeps answer)) (still_has refl)
       (λ M' G' w k. record { knowing = k; fits = tt })
-      (unlock_taken env mix c told None Nowhere words G all whole refl found.bucket.place found.bucket.word
-      found.node k)
-
-  replacing_step : (n : ℕ) (found : FoundPort) (relink : RelinkModel)
-      → IsNodeOrNone env.geometry found.before
-      → RebindKnows (at.Replacing n found relink) M G → RebindStep (at.Replacing n found relink)
-  replacing_step n found relink within known =
-      relinking_so env.geometry found.bucket.place found.bucket.word (link_of n)
-      (stores.LeadsOn env mix c port owner new single small low words G all whole n found)
-      (stores.first_leads env mix c port owner new single small low words G all whole n found)
-      (second_leads n found) found.before relink known.fits within known.knowing
+      (unlock_step env mix c told (Some (own port owner new n)) Nowhere words G all whole refl
+      unlock.place unlock.word known.knowing)
 
   -- ---- its read section
 
@@ -355,32 +441,17 @@ module _ (env : Env) (mix : ℕ → ℕ → ℕ → ℕ) (c : ℕ) (port owner n
       seek_next n seek (seek_after mix port seek (old_of words (seek_plan seek)))
       (seeks.seek_step env mix c call port (Some n) (Some (own port owner new n)) (plain Absent)
       words G all whole
-      (λ unbound. absent_legal [] unbound refl refl) (absent_right n) refl seek is.seek_in
+      (λ none. absent_legal (subst (NotIn owner) (sym none) tt)) (absent_right n) refl seek is.seek_in
       (record { knowing = known.knowing; fits = known.fits }))
-  rebind_step (at.Owner n found) is known = owner_next n found known
-  rebind_step (at.ChainLink n found) is known =
-      let there = known.knowing.means.bucket in
-      let next = at.Link n found (M (Node found.node ChainLink)) in
-      reads env mix whole refl refl (inl refl) (record {
-        knowing =
-            plainly env mix known.knowing.only known.knowing.means.node known.knowing.means.table (record {
-              found = there.found;
-              behind = there.behind;
-              bound_to = there.bound_to;
-              means = record { leads = there.means; link_is = refl };
-            });
-        fits = tt;
-      })
+  rebind_step (at.Searching n found search) is known = searching n found search known
+  rebind_step (at.LinkBehind n found old before) is known = behind_step n found old before known
+  rebind_step (at.OwnListLink n found old before link) is known = own_step n found old before link known
+  rebind_step (at.Swapping n found old before) is known = swap_step n found old before known
+  rebind_step (at.ChainLink n found) is known = chain_step n found known
   rebind_step (at.Link n found link) is known = link_next n found link known
   rebind_step (at.Replacing n found relink) is known =
       replacing_step n found relink is.found_in.before_in known
-  rebind_step (at.Unlocking n table unlock) is known =
-      let answer = Some (plain Absent) in
-      let told : Holding = holds_node n None answer in
-      answered-map env mix answer (inl (keeps answer)) (still_has refl)
-      (λ M' G' w k. record { knowing = k; fits = tt })
-      (unlock_step env mix c told (Some (own port owner new n)) Nowhere words G all whole refl
-      unlock.place unlock.word known.knowing)
+  rebind_step (at.Unlocking table unlock end) is known = unlocking_step table unlock end known
   rebind_step (at.Closing (ends.Rebound removed)) is known = rebound_step removed known
   rebind_step (at.Closing (ends.Absent n)) is known = absent_step n known
   rebind_step (at.Giving give) is known =

@@ -21,12 +21,13 @@ use Rattle.rht_release.specs.declared.release.ReleaseAt.{ReleaseAt}
 use Rattle.rht_release.specs.declared.release.ReleaseAt.TheVariants as at
 use Rattle.rht_ghost.proofs.Pieces.Locates.{IsThereFor}
 use Rattle.rht_ghost.proofs.Theory.Ghosts.{Ghost}
-use Rattle.rht_ghost.proofs.Theory.Knowns.{KnownBucket, Nowhere, Locks, TakenOut, LocksTakenOut, KnownList, AtNode, Differing, Matching, CutsOut, Leads, LeadsTo, Promotes, Known}
-use Rattle.rht_ghost.proofs.Theory.Knowledge.{plainly, Knowing, ListMeans}
+use Rattle.rht_ghost.proofs.Theory.Knowns.{KnownBucket, Nowhere, Locks, TakenOut, LocksTakenOut, KnownList, Matching, LinkBehind, Leads, LeadsTo, Promotes, Known}
+use Rattle.rht_ghost.proofs.Theory.Knowledge.{plainly, Knowing}
 use Rattle.rht_ghost.proofs.Theory.Steps.{Holding, mem, StepWhere}
 use Rattle.rht_ghost.proofs.Pieces.Relinks.{relinking, unstored}
 use Rattle.rht_release.proofs.Seeks as seeks
 use Rattle.rht_ghost.proofs.Theory.Knowns.{known_nothing}
+use Rattle.rht_release.proofs.ListSearches.{known_search}
 use Rattle.rht_release.proofs.ReleaseStores.{here, listed, locks_taken}
 use Rattle.rht_release.proofs.ReleaseStores as stores
 
@@ -69,11 +70,10 @@ module _ (port owner : ℕ) where
   abbrev pub known_of_release : ReleaseAt → Known
   known_of_release at.Opening = known_nothing
   known_of_release (at.Seeking seek) = seeks.known_of_seek port None seek.at
-  known_of_release (at.Owner found node before) = listed port found (AtNode node before owner)
-  known_of_release (at.ListLink found node) = listed port found (Differing node owner)
+  known_of_release (at.Searching found search) = listed port found (known_search owner search)
   known_of_release (at.LinkBehind found node before) = listed port found (Matching node before owner)
   known_of_release (at.CuttingOut found node before link) =
-      listed port found (CutsOut node before link owner)
+      listed port found (LinkBehind node (Some before) link owner)
   known_of_release (at.ChainLink found second) = listed port found (Leads second owner)
   known_of_release (at.SecondLink found second link) =
       listed port found (LeadsTo (Some second) link owner)
@@ -107,8 +107,7 @@ module _ (env : Env) (mix : ℕ → ℕ → ℕ → ℕ) (c : ℕ) (port owner :
   abbrev pub fits_release : ReleaseAt → Type 0
   fits_release at.Opening = Unit {0}
   fits_release (at.Seeking seek) = seeks.fits_seek port seek.at
-  fits_release (at.Owner found node before) = Unit {0}
-  fits_release (at.ListLink found node) = Unit {0}
+  fits_release (at.Searching found search) = Unit {0}
   fits_release (at.LinkBehind found node before) = Unit {0}
   fits_release (at.CuttingOut found node before link) = Unit {0}
   fits_release (at.ChainLink found second) = Unit {0}
@@ -138,15 +137,6 @@ module _ (env : Env) (mix : ℕ → ℕ → ℕ → ℕ) (c : ℕ) (port owner :
 
   abbrev KnowsList : FoundPort → KnownList → Memory → Ghost → Type 0
   KnowsList = stores.KnowsList env mix c port owner
-
-  -- what is known where more is said of the list
-  pub list_more : {M : Memory} {G : Ghost} (found : FoundPort) (known more : KnownList)
-      → (k : KnowsList found known M G) → ListMeans env mix c M G found.node k.means.bucket.behind more
-      → KnowsList found more M G
-  list_more found known more k means =
-      let is = k.means.bucket in
-      plainly env mix k.only tt k.means.table
-      (record { found = is.found; behind = is.behind; bound_to = is.bound_to; means = means })
 
   pub unlinking_knows : (M : Memory) (G : Ghost) (found : FoundPort) (link : ℕ)
       → KnowsList found (LeadsTo None link owner) M G

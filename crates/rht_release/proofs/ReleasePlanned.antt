@@ -2,7 +2,7 @@
 -- caller. What it stores are words.
 use Rattle.std.proofs.Common.{ℕ, ◌<◌, refl, arith}
 use Rattle.rht_words.specs.declared.env.Env.{Env}
-use Rattle.rht_words.specs.Places.{PortCount, Node, ChainLink, OwnerWord, ListLink}
+use Rattle.rht_words.specs.Places.{PortCount, Node, ChainLink, ListLink}
 use Rattle.rht_words.specs.Planned.{IsPlannedIn}
 use Rattle.rht_words.proofs.PlannedWords.{planned-at, planned_load}
 use Rattle.rht_chain.proofs.PiecesPlanned.{planned_relink, planned_unlock}
@@ -10,6 +10,7 @@ use Rattle.rht_grace.proofs.SectionsPlanned.{planned_enter, planned_leave}
 use Rattle.rht_release.specs.Release.{plan_at, IsReleaseAtIn}
 use Rattle.rht_release.specs.declared.release.ReleaseAt.{ReleaseAt}
 use Rattle.rht_release.specs.declared.release.ReleaseAt.TheVariants as at
+use Rattle.rht_release.proofs.ListSearchStays.{planned_search}
 use Rattle.rht_release.proofs.SeekStays.{planned_seek}
 
 pub planned_release : (env : Env) (caller : ℕ) (state : ReleaseAt) → caller < 16 → IsReleaseAtIn env state
@@ -17,10 +18,8 @@ pub planned_release : (env : Env) (caller : ℕ) (state : ReleaseAt) → caller 
 planned_release env caller at.Opening few within =
     planned_enter env.geometry caller (record { caller = caller }) (record { own = refl; within = few })
 planned_release env caller (at.Seeking seek) few within = planned_seek env.geometry seek within
-planned_release env caller (at.Owner found node before) few within =
-    planned_load env.geometry (Node node OwnerWord) within.node_in tt
-planned_release env caller (at.ListLink found node) few within =
-    planned_load env.geometry (Node node ListLink) within.node_in tt
+planned_release env caller (at.Searching found search) few within =
+    planned_search env.geometry search within.search_in
 planned_release env caller (at.LinkBehind found node before) few within =
     planned_load env.geometry (Node node ListLink) within.node_in tt
 planned_release env caller (at.CuttingOut found node before link) few within =

@@ -1,27 +1,29 @@
 -- Whatever words it is told, a release stays in its table: a case a state.
 -- Links are read totally, so what they name is there or is none.
 use Rattle.std.proofs.Common.{ℕ, refl}
-use Rattle.std.specs.Prelude.{Bool, true, false, Option, Some, None}
+use Rattle.std.specs.Prelude.{Option, Some, None}
 use Rattle.rht_words.specs.declared.env.Env.{Env}
 use Rattle.rht_words.specs.declared.geometry.Geometry.{Geometry}
 use Rattle.rht_words.specs.declared.machine.Next.{Next}
 use Rattle.rht_words.specs.declared.machine.Next.TheVariants.{Go, Done}
-use Rattle.rht_words.specs.Links.{node_of, link_of}
+use Rattle.rht_words.specs.Links.{link_of}
 use Rattle.rht_words.specs.Planned.{IsWord}
-use Rattle.rht_words.specs.Ports.{owner_of}
 use Rattle.rht_words.proofs.LinksRead.{node_of-in}
 use Rattle.rht_words.proofs.PlannedWords.{link_of-fits}
-use Rattle.std.specs.Prelude.{◌==◌}
 use Rattle.rht_chain.specs.LockedWalk.{IsNodeOrNone}
 use Rattle.rht_chain.specs.Relink.{RelinkModel, relink_after, IsRelinkIn}
 use Rattle.rht_chain.proofs.PiecesStay.{relink_stays}
-use Rattle.rht_release.specs.FoundPort.{IsFoundPortIn, IsAtNodeIn}
+use Rattle.rht_release.specs.FoundPort.{IsFoundPortIn}
 use Rattle.rht_release.specs.Seek.{SeekModel, seek_after}
-use Rattle.rht_release.specs.Release.{after_at, sought, owner_compared, unlocking, list_followed, cut_or_chain, unlink_or_promote, promoted, unlinked, IsInListIn, IsReleaseAtIn}
+use Rattle.rht_release.specs.ListSearch.{search_after}
+use Rattle.rht_release.specs.Release.{after_at, sought, searched, unlocking, cut_or_chain, unlink_or_promote, promoted, unlinked, IsInListIn, IsReleaseAtIn}
 use Rattle.rht_release.specs.declared.found_port.FoundPort.{FoundPort}
+use Rattle.rht_release.specs.declared.list_search.ListPlace.{ListPlace}
+use Rattle.rht_release.specs.declared.list_search.ListSearch.{ListSearch}
 use Rattle.rht_release.specs.declared.release.ReleaseAt.{ReleaseAt}
 use Rattle.rht_release.specs.declared.release.ReleaseAt.TheVariants as at
 use Rattle.rht_release.proofs.FoundPortsStay.{relink_of-in, unlock_of-in}
+use Rattle.rht_release.proofs.ListSearchStays.{SearchStays, search_stays}
 use Rattle.rht_release.proofs.SeekStays.{SeekIsIn, seek_stays}
 
 module _ (mix : ℕ → ℕ → ℕ → ℕ) (env : Env) (port owner : ℕ) where
@@ -33,13 +35,7 @@ module _ (mix : ℕ → ℕ → ℕ → ℕ) (env : Env) (port owner : ℕ) wher
   sought-in seek Go stays = stays.seek_in
   sought-in seek (Done None) stays = tt
   sought-in seek (Done (Some found)) stays =
-      record { found_in = stays.end_in; node_in = stays.end_in.node_in; before_in = tt }
-
-  owner_compared-in : (found : FoundPort) (node : ℕ) (before : Option ℕ) (equal : Bool)
-      → IsInListIn g found node before → IsReleaseAtIn env (owner_compared found node before equal)
-  owner_compared-in found node before true within = within
-  owner_compared-in found node before false within =
-      record { found_in = within.found_in; node_in = within.node_in }
+      record { found_in = stays.end_in; search_in = record { node_in = stays.end_in.node_in; before_in = tt } }
 
   unlocking-in : (found : FoundPort) (removed : Option ℕ) → IsFoundPortIn g found → IsNodeOrNone g removed
       → IsReleaseAtIn env (unlocking found removed)
@@ -49,11 +45,12 @@ module _ (mix : ℕ → ℕ → ℕ → ℕ) (env : Env) (port owner : ℕ) wher
     removed_in = removed_in;
   }
 
-  list_followed-in : (found : FoundPort) (node : ℕ) (next : Option ℕ) → IsAtNodeIn g found node
-      → IsNodeOrNone g next → IsReleaseAtIn env (list_followed found node next)
-  list_followed-in found node None within next_in = unlocking-in found None within.found_in tt
-  list_followed-in found node (Some next) within next_in =
-      record { found_in = within.found_in; node_in = next_in; before_in = within.node_in }
+  searched-in : (found : FoundPort) (search : ListSearch) (next : Next (Option ListPlace)) → IsFoundPortIn g found
+      → SearchStays g (search, next) → IsReleaseAtIn env (searched found search next)
+  searched-in found search Go found_in stays = record { found_in = found_in; search_in = stays.search_in }
+  searched-in found search (Done None) found_in stays = unlocking-in found None found_in tt
+  searched-in found search (Done (Some place)) found_in stays =
+      record { found_in = found_in; node_in = stays.end_in.node_in; before_in = stays.end_in.before_in }
 
   cut_or_chain-in : (found : FoundPort) (node link : ℕ) (before : Option ℕ) → IsInListIn g found node before
       → IsWord link → IsReleaseAtIn env (cut_or_chain g found node link before)
@@ -90,10 +87,9 @@ module _ (mix : ℕ → ℕ → ℕ → ℕ) (env : Env) (port owner : ℕ) wher
   release_stays (at.Seeking seek) word within told =
       sought-in (seek_after mix port seek word).0 (seek_after mix port seek word).1
       (seek_stays g mix port seek word within told)
-  release_stays (at.Owner found node before) word within told =
-      owner_compared-in found node before (owner_of word == owner) within
-  release_stays (at.ListLink found node) word within told =
-      list_followed-in found node (node_of g.nodes word) within (node_of-in g word)
+  release_stays (at.Searching found search) word within told =
+      searched-in found (search_after g owner search word).0 (search_after g owner search word).1 within.found_in
+      (search_stays g owner search word within.search_in)
   release_stays (at.LinkBehind found node before) word within told =
       cut_or_chain-in found node word before within told
   release_stays (at.CuttingOut found node before link) word within told =

@@ -36,10 +36,11 @@ use Rattle.rht_ghost.proofs.Pieces.Locks.{unlock_step, unlock_taken}
 use Rattle.rht_ghost.proofs.Pieces.OwnSections.{open_step, close_step}
 use Rattle.rht_ghost.proofs.Pieces.Rebounds.{found_kept}
 use Rattle.rht_ghost.proofs.Pieces.Relinks.{relinking_so}
+use Rattle.rht_release.proofs.ListSearches.{list_more}
 use Rattle.rht_release.proofs.ReleaseStores.{holds_left}
 use Rattle.rht_release.proofs.ReleaseStores as stores
-use Rattle.rht_release.proofs.ReleaseKnowledge.{known_removed, removed_nowhere, led_to, behind_node, relinks, begins_held, list_more, unlinking_knows, promoting_knows}
-use Rattle.rht_release.proofs.ReleaseLists.{seeking, owner_step, list_step, behind_step, cut_step}
+use Rattle.rht_release.proofs.ReleaseKnowledge.{known_removed, removed_nowhere, led_to, behind_node, relinks, begins_held, unlinking_knows, promoting_knows}
+use Rattle.rht_release.proofs.ReleaseLists.{seeking, searching, behind_step, cut_step}
 use Rattle.rht_release.proofs.ReleaseKnowledge as releases
 
 module _ (env : Env) (mix : ℕ → ℕ → ℕ → ℕ) (c : ℕ) (port owner : ℕ) (low : c < env.geometry.callers)
@@ -70,14 +71,14 @@ module _ (env : Env) (mix : ℕ → ℕ → ℕ → ℕ) (c : ℕ) (port owner :
       rw (begins_held env found true link)
       (reads env mix whole refl refl (inl refl)
       (unlinking_knows env mix c port owner M G found link
-      (list_more env mix c port owner found (Leads None owner) (LeadsTo None link owner) known.knowing
+      (list_more env mix c (holds_bucket found) None port found (Leads None owner) (LeadsTo None link owner) known.knowing
       (record { leads = known.knowing.means.bucket.means; link_is = refl }))))
   chain_step found (Some second) known =
       let link = M (Node found.node ChainLink) in
       let leads = Leads (Some second) owner in
       reads env mix whole refl refl (inl refl) (record {
         knowing =
-            list_more env mix c port owner found leads (LeadsTo (Some second) link owner) known.knowing
+            list_more env mix c (holds_bucket found) None port found leads (LeadsTo (Some second) link owner) known.knowing
             (record { leads = known.knowing.means.bucket.means; link_is = refl });
         fits = tt;
       })
@@ -296,10 +297,8 @@ module _ (env : Env) (mix : ℕ → ℕ → ℕ → ℕ) (c : ℕ) (port owner :
   release_step at.Opening is known = opening_step known
   release_step (at.Seeking seek) is known =
       seeking env mix c port owner low words G all whole seek is known
-  release_step (at.Owner found node before) is known =
-      owner_step env mix c port owner low words G all whole found node before known
-  release_step (at.ListLink found node) is known =
-      list_step env mix c port owner low words G all whole found node known
+  release_step (at.Searching found search) is known =
+      searching env mix c port owner low words G all whole found search known
   release_step (at.LinkBehind found node before) is known =
       behind_step env mix c port owner low words G all whole found node before known
   release_step (at.CuttingOut found node before link) is known =

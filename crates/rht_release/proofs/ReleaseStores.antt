@@ -11,7 +11,7 @@ use Rattle.rht_words.specs.Links.{link_of}
 use Rattle.rht_words.specs.Ports.{owner_of}
 use Rattle.rht_words.specs.Operations.{op_place, applied}
 use Rattle.rht_words.specs.Places.{Node, OwnerWord, ListLink, IsBucketPlace, nodes_at, pages_at, place_of, words_in}
-use Rattle.rht_words.specs.Members.{In, NotIn}
+use Rattle.rht_words.specs.Members.{In}
 use Rattle.rht_words.proofs.Memory.{Memory, IsWrite, is_write}
 use Rattle.rht_words.proofs.Members.{in_and_not, in-middle, In-append_left, In-append_right, In-append_cases}
 use Rattle.rht_chain.specs.LockedWalk.{IsNodeOrNone}
@@ -27,20 +27,19 @@ use Rattle.rht_release.specs.ReleaseHeld.{holds_bucket, holds_removed}
 use Rattle.rht_release.specs.FoundPort.{relink_of}
 use Rattle.rht_release.specs.declared.found_port.FoundPort.{FoundPort}
 use Rattle.rht_ghost.proofs.Theory.Ghosts.{put-same, put-other, Bucket, Owner, NodeHeld, First, Taken, Ghost, is_taken_by, taken_by_one}
-use Rattle.rht_ghost.proofs.Theory.Wholes.{list_of, place_at, word_index, place_at-index, MovesNone, Whole, outs as count_outs, at-there}
-use Rattle.rht_ghost.proofs.Theory.Knowns.{knows_plain, Nowhere, KnownBucket, TakenOut, LocksTakenOut, KnownList, CutsOut, LeadsTo, Promotes, Known, NoOwner, last_of, first_of_list}
+use Rattle.rht_ghost.proofs.Theory.Wholes.{list_of, place_at, word_index, place_at-index, MovesNone, Whole, outs as count_outs}
+use Rattle.rht_ghost.proofs.Theory.Knowns.{knows_plain, Nowhere, KnownBucket, TakenOut, LocksTakenOut, KnownList, LinkBehind, LeadsTo, Promotes, Known, NoOwner, first_of_list}
 use Rattle.rht_ghost.proofs.Theory.Knowledge.{plainly, HasOnly, idle_moves_none, HoldsLock, IsAtHome, HasTakenOut, Knowing, IsFound, BucketMeans}
-use Rattle.rht_ghost.proofs.Theory.Passed.{stays_in}
 use Rattle.rht_ghost.proofs.Theory.Frames.{Made}
 use Rattle.rht_ghost.proofs.Theory.Readiness.{Change, changed, IsRebinding}
 use Rattle.rht_ghost.proofs.Theory.Answering.{IsRight, ChangesBindings}
 use Rattle.rht_ghost.proofs.Theory.Steps.{Rebinds, Holding, mem, owners, owners_in, owners-stay, Step, still_has}
-use Rattle.rht_ghost.proofs.Moves.Relinking.{relink_address, relink_value, relinked, last_in}
+use Rattle.rht_ghost.proofs.Moves.Relinking.{relink_address, relink_value, relinked}
 use Rattle.rht_ghost.proofs.Moves.Removing.{IsFoundIn, CanReplace, unlink, replace, unlinking_known, replacing_known}
 use Rattle.rht_ghost.proofs.Moves.ListCuts.{cut_list, cutting_known}
-use Rattle.rht_ghost.proofs.Pieces.Lists.{segment_link, list_among, list_rest}
-use Rattle.rht_ghost.proofs.Pieces.Rebounds.{IsTakenWith, taken_then, taken_more, only_rebound, owners_kept, node_behind_maps, node_before_pages}
-use Rattle.rht_release.proofs.Seeks.{home_of, in_list}
+use Rattle.rht_ghost.proofs.Pieces.LaterNodes.{lies_behind, first_stays, later_behind, later_link, before_among, behind_first}
+use Rattle.rht_ghost.proofs.Pieces.Rebounds.{IsTakenWith, taken_then, taken_more, only_rebound, lock_stays, owners_kept, node_behind_maps, node_before_pages}
+use Rattle.rht_release.proofs.ListSearches.{no_owner, knows_list}
 use Rattle.rht_ghost.proofs.Pieces.Relinks.{lock_left, relink_write, relink_behind_maps, relink_left_lock, holder_left, lock_kept}
 
 -- what is known of the bucket alone
@@ -49,7 +48,7 @@ here bucket = knows_plain None Nowhere bucket
 
 -- what is known of the list of a port that was found
 abbrev pub listed : ℕ → FoundPort → KnownList → Known
-listed port found known = knows_plain None (home_of port found) (in_list port found known)
+listed port found known = knows_list None port found known
 
 -- the bucket is locked, and this node taken out
 abbrev pub locks_taken : FoundPort → ℕ → KnownBucket
@@ -79,6 +78,13 @@ module _ (env : Env) (mix : ℕ → ℕ → ℕ → ℕ) (c : ℕ) (port owner :
   abbrev pub left_by_first : FoundPort → Option ℕ
   left_by_first found = lock_left found.bucket.place found.before
 
+  -- and the node that was taken out, and the lock where a node is before it
+  pub left_means : (M : Memory) (G : Ghost) (found : FoundPort) (before : Option ℕ)
+      → ((node : ℕ) → before ≡ Some node → HoldsLock env mix c G found.bucket.place found.bucket.word)
+      → HasTakenOut env mix c G found.node → BucketMeans env mix c M G (known_left found before)
+  left_means M G found None lock took = took
+  left_means M G found (Some node) lock took = record { lock = lock node refl; took = took }
+
   pub released_right : (kick : Bool) → IsRight call None (plain (Released kick))
   released_right kick = record { replied = record { reply = tt; owners = refl }; tells = refl }
 
@@ -95,11 +101,6 @@ module _ (env : Env) (mix : ℕ → ℕ → ℕ → ℕ) (c : ℕ) (port owner :
     -- the words after an operation
     abbrev after : Op → Memory
     after op = mem env mix (applied words op)
-
-    -- nodes of which none has the owner have other owners
-    pub no_owner : (nodes : List ℕ) → NoOwner M owner nodes → NotIn owner (owners_in env mix M nodes)
-    no_owner [] none = tt
-    no_owner (node ∷ nodes) none = (λ e. none.0 (sym e), no_owner nodes none.1)
 
     -- ---- what any such store does
 
@@ -154,7 +155,7 @@ module _ (env : Env) (mix : ℕ → ℕ → ℕ → ℕ) (c : ℕ) (port owner :
         let before_it = owners_in env mix M front in
         let behind_it = owners_in env mix M rear in
         let said : ℕ → ℕ = λ n. owner_of (M (Node n OwnerWord)) in
-        let none = no_owner front takes.none in
+        let none = no_owner env mix M owner front takes.none in
         let was : now port ≡ before_it ++ owner ∷ behind_it =
         ap (owners_in env mix M) takes.bound_to ∙ map-append said front (node ∷ rear)
         ∙ ap (λ o. before_it ++ o ∷ behind_it) takes.owner_is in
@@ -242,21 +243,6 @@ module _ (env : Env) (mix : ℕ → ℕ → ℕ → ℕ) (c : ℕ) (port owner :
           }));
         }
 
-    -- The port's first node isn't on its way out of any bucket, where it was found in the bucket to which the caller has come.
-    found_stays : (found : FoundPort) (behind : List ℕ)
-        → (is : IsFound env mix c M G found.bucket.place found.bucket.word port found.node found.before)
-        → IsAtHome env mix c G port found.table (Some found.shape) found.bucket.place
-        → MovesNone env mix G c → G.bound port ≡ found.node ∷ behind
-        → (i : ℕ) → (G.bucket i).out ≢ Some found.node
-    found_stays found behind is at none bound =
-        let m = found.node in
-        let j = word_index env mix found.bucket.place in
-        let s = is.standing.stands in
-        let first = whole.owned.member j m (subst (In m) (sym s.split) (in-middle m s.front s.rear)) in
-        stays_in env mix M G whole c port at.passing.at.table j m behind at.passing.passed
-        (at-there at.passing.at) at.here
-        is.standing.lock.holder none bound first
-
     -- ---- a node behind the first one is cut out of the list
 
     abbrev cut_op : ℕ → ℕ → Op
@@ -269,88 +255,56 @@ module _ (env : Env) (mix : ℕ → ℕ → ℕ → ℕ) (c : ℕ) (port owner :
         (KnowsLeft (Some found.bucket.place) false (locks_taken found node))
 
     pub cut_store : (found : FoundPort) (node before link : ℕ)
-        → KnowsList found (CutsOut node before link owner) M G
+        → KnowsList found (LinkBehind node (Some before) link owner) M G
         → CutsStep found node before link
     cut_store found node before link k =
-        let stands = k.means.bucket.means.is.stands in
-        go stands.among.front stands.among.split stands.among.last stands.none
-      where
-        rear : List ℕ
-        rear = k.means.bucket.means.is.stands.among.rear
-
-        go : (front : List ℕ) → found.node ∷ k.means.bucket.behind ≡ front ++ node ∷ rear
-            → Some before ≡ last_of front
-            → NoOwner M owner front → CutsStep found node before link
-        go [] split last none = absurd (cc)
-        go (first ∷ front) split last none =
-            let is = k.means.bucket in
-            let cuts = is.means in
-            let lock = is.found.standing.lock in
-            let stands = is.found.standing.stands in
-            let op = cut_op before link in
-            let j = word_index env mix found.bucket.place in
-            let m = found.node in
-            let nodes = front ++ node ∷ rear in
-            let same : first ≡ m = cc in
-            let bound : G.bound port ≡ m ∷ nodes = is.bound_to ∙ split ∙ ap (λ n. n ∷ nodes) same in
-            let last_is : last_of (m ∷ front) ≡ Some before =
-            sym (last ∙ ap (λ n. last_of (n ∷ front)) same) in
-            let before_in = list_among env mix M G whole port m nodes bound before
-            (In-append_left before (m ∷ front) (node ∷ rear) (last_in (m ∷ front) before last_is)) in
-            let write : IsWrite env.geometry M (after op) (Node before ListLink) link =
-            is_write env.geometry words (Node before ListLink) op all before_in refl in
-            let link_is : list_of M node ≡ link =
-            segment_link (list_of M) (list_of M node) rear
-            (list_rest env mix M G whole port m is.behind is.bound_to node (Some before) cuts.is.stands.among)
-            ∙ cuts.link_is in
-            let mine = (whole.owned.bound_to port m nodes bound).each node (in-middle node front rear) in
-            take_out found op node (m ∷ front) rear (G.bucket j) node (Taken c) (G.raised c)
-            (Some found.bucket.place) (locks_taken found node) false (sym k.only.raising) (record {
-              only = k.only;
-              there = place_at-index env mix found.bucket.place lock.bucket;
-              behind_maps = node_behind_maps env.geometry before ListLink;
-              bound_to = bound;
-              none = subst (λ n. NoOwner M owner (n ∷ front)) same none;
-              owner_is = cuts.is.owner_is;
-              among = (whole.owned.behind_in node port mine).among;
-              untaken = ap (is_taken_by c) mine;
-              with_other = inl (refl, refl);
-              not_held = λ e. cc;
-              made = cut_list env mix c port j m node before front rear M (after op) G whole low link link_is
-                  (record {
-                    holder = lock.holder;
-                    there = subst (In m) (sym stands.split) (in-middle m stands.front stands.rear);
-                    key_is = is.found.key_is;
-                    bound_to = bound;
-                    last = last_is;
-                    moves_none = idle_moves_none env mix M G whole c k.only;
-                    not_out = found_stays found nodes is.found k.means.table
-                        (idle_moves_none env mix M G whole c k.only) bound;
-                  }) write;
-              ready = inr (inr (cutting_known env mix c port j m node before front rear M (after op) G whole
-                  (record {
-                    holder = lock.holder;
-                    there = subst (In m) (sym stands.split) (in-middle m stands.front stands.rear);
-                    key_is = is.found.key_is;
-                    bound_to = bound;
-                    last = last_is;
-                    moves_none = idle_moves_none env mix M G whole c k.only;
-                    not_out = found_stays found nodes is.found k.means.table
-                        (idle_moves_none env mix M G whole c k.only) bound;
-                  })));
-              left = inl (refl, node_before_pages env.geometry before ListLink before_in);
-              holder = λ e. refl;
-              means = λ took. record {
-                lock = record {
-                  bucket = lock.bucket;
-                  holder = ap (λ b. b.holder) (put-same G.bucket j (G.bucket j)) ∙ lock.holder;
-                  plain = ap (λ b. b.plain) (put-same G.bucket j (G.bucket j)) ∙ lock.plain;
-                  unarmed = ap (λ b. b.armed) (put-same G.bucket j (G.bucket j)) ∙ lock.unarmed;
-                  still = ap (λ b. b.out) (put-same G.bucket j (G.bucket j)) ∙ lock.still;
-                };
-                took = took;
-              };
-            })
+        let is = k.means.bucket in
+        let cuts = is.means in
+        let among = cuts.is.stands.among in
+        let m = found.node in
+        let place = found.bucket.place in
+        let word = found.bucket.word in
+        let j = word_index env mix place in
+        let lock = is.found.standing.lock in
+        let lies = lies_behind m is.behind node before among in
+        let op = cut_op before link in
+        let before_in =
+        before_among env mix c port place word m found.before M G whole is.found is.behind is.bound_to node before among in
+        let mine =
+        later_behind env mix c port place word m found.before M G whole is.found is.behind is.bound_to node before among in
+        let link_is : list_of M node ≡ link =
+        later_link env mix c port place word m found.before M G whole is.found is.behind is.bound_to node before among
+        ∙ cuts.link_is in
+        let none = idle_moves_none env mix M G whole c k.only in
+        let behind_it =
+        behind_first env mix c port place word m found.before M G whole is.found is.behind is.bound_to node before among
+        (after op) none
+        (first_stays env mix c port place word m found.before M G whole is.found is.behind is.bound_to found.table
+        (Some found.shape) k.means.table none) in
+        take_out found op node (m ∷ lies.others) among.rear (G.bucket j) node (Taken c) (G.raised c) (Some place)
+        (locks_taken found node) false (sym k.only.raising) (record {
+          only = k.only;
+          there = place_at-index env mix place lock.bucket;
+          behind_maps = node_behind_maps env.geometry before ListLink;
+          bound_to = behind_it.bound_to;
+          none = subst (NoOwner M owner) lies.front_is cuts.is.stands.none;
+          owner_is = cuts.is.owner_is;
+          among = (whole.owned.behind_in node port mine).among;
+          untaken = ap (is_taken_by c) mine;
+          with_other = inl (refl, refl);
+          not_held = λ e. cc;
+          made = cut_list env mix c port j m node before lies.others among.rear M (after op) G whole low link link_is behind_it
+              (is_write env.geometry words (Node before ListLink) op all before_in refl);
+          ready = inr (inr (inl (cutting_known env mix c port j m node before lies.others among.rear M (after op) G whole
+              behind_it)));
+          left = inl (refl, node_before_pages env.geometry before ListLink before_in);
+          holder = λ e. refl;
+          means = λ took. record {
+            lock = lock_stays env mix c G (taking found node (m ∷ (lies.others ++ among.rear)) (G.bucket j) node (Taken c)
+                (G.raised c)) place word (G.bucket j).nodes refl refl lock;
+            took = took;
+          };
+        })
 
     -- ---- the first node goes out of the chain
 
@@ -417,18 +371,12 @@ module _ (env : Env) (mix : ℕ → ℕ → ℕ → ℕ) (c : ℕ) (port owner :
           left = relink_left_lock env mix place word link found.before words all lock.bucket takes.before_in
               (place_at env mix j) (G.bucket j) nodes;
           holder = holder_left env mix place word link found.before c G lock change nodes refl refl;
-          means = λ took. means (after op) (changed G c change) found.before took
+          means = left_means (after op) (changed G c change) found found.before
               (lock_kept env mix place word link found.before c G lock change nodes refl refl);
         })
-      where
-        means : (M' : Memory) (G' : Ghost) (b : Option ℕ) → HasTakenOut env mix c G' found.node
-            → ((node : ℕ) → b ≡ Some node → HoldsLock env mix c G' found.bucket.place found.bucket.word)
-            → BucketMeans env mix c M' G' (known_left found b)
-        means M' G' None took lock = took
-        means M' G' (Some node) took lock = record { lock = lock node refl; took = took }
 
     -- what the moves of such a store ask
-    found_in : (found : FoundPort) (link : ℕ)
+    pub found_in : (found : FoundPort) (link : ℕ)
         (is : IsFound env mix c M G found.bucket.place found.bucket.word port found.node found.before)
         (behind : List ℕ) → IsAtHome env mix c G port found.table (Some found.shape) found.bucket.place
         → MovesNone env mix G c → G.bound port ≡ found.node ∷ behind
@@ -442,7 +390,8 @@ module _ (env : Env) (mix : ℕ → ℕ → ℕ → ℕ) (c : ℕ) (port owner :
       key_is = is.key_is;
       bound_to = bound;
       moves_none = none;
-      not_out = found_stays found behind is at none bound;
+      not_out = first_stays env mix c port found.bucket.place found.bucket.word found.node found.before M G whole is behind
+          bound found.table (Some found.shape) at none;
     }
 
     first_write : (found : FoundPort) (link : ℕ) → IsBucketPlace env.geometry found.bucket.place
@@ -465,6 +414,7 @@ module _ (env : Env) (mix : ℕ → ℕ → ℕ → ℕ) (c : ℕ) (port owner :
         let j = word_index env mix place in
         let alone : is.behind ≡ [] = none_behind is.behind leads.second_is in
         let bound : G.bound port ≡ found.node ∷ [] = is.bound_to ∙ ap (λ behind. found.node ∷ behind) alone in
+        let there = found_in found link is.found [] k.means.table (idle_moves_none env mix M G whole c k.only) bound in
         first_out found link [] (s.front ++ s.rear) found.node (Taken c) true true refl (record {
           only = k.only;
           is = is.found;
@@ -473,14 +423,10 @@ module _ (env : Env) (mix : ℕ → ℕ → ℕ → ℕ) (c : ℕ) (port owner :
           before_in = before_in;
           with_other = inl (refl, refl);
           not_held = λ e. cc;
-          made = unlink env mix c port j found.node s.front s.rear found.before M
-              (after (relink_op found link)) G
-              whole low k.only.raising low link is.means.link_is
-              (found_in found link is.found [] k.means.table (idle_moves_none env mix M G whole c k.only) bound) (first_write found link lock.bucket before_in);
-          ready = inl (unlinking_known env mix c port j found.node s.front s.rear found.before M
-              (after (relink_op found link)) G link
-              (found_in found link is.found [] k.means.table
-              (idle_moves_none env mix M G whole c k.only) bound));
+          made = unlink env mix c port j found.node s.front s.rear found.before M (after (relink_op found link)) G whole low
+              k.only.raising low link is.means.link_is there (first_write found link lock.bucket before_in);
+          ready = inl (unlinking_known env mix c port j found.node s.front s.rear found.before M (after (relink_op found link)) G
+              link there);
         })
       where
         none_behind : (nodes : List ℕ) → None ≡ first_of_list nodes → nodes ≡ []
@@ -511,14 +457,14 @@ module _ (env : Env) (mix : ℕ → ℕ → ℕ → ℕ) (c : ℕ) (port owner :
             is.bound_to ∙ ap (λ nodes. m ∷ nodes) (behind_is ∙ ap (λ n. n ∷ tail) same) in
             let to = whole.owned.bound_to port m behind bound in
             let mine = to.each second (inl refl) in
-            let behind_first = whole.owned.behind_in second port mine in
+            let second_is = whole.owned.behind_in second port mine in
             let other : second ≢ m = λ e. in_and_not m behind (inl (sym e)) to.distinct.0 in
             let not_second : In second tail → ⊥ = λ i. in_and_not second tail i to.distinct.1.0 in
             let can : CanReplace env mix c port j m s.front s.rear found.before M (after op) G behind second tail
             (Taken c) = record {
-              among = behind_first.among;
+              among = second_is.among;
               differs = other;
-              key_is = behind_first.key_is;
+              key_is = second_is.key_is;
               chain_is = is.means.alike;
               from = inr (inl refl);
               list = to.list.1;
@@ -533,6 +479,8 @@ module _ (env : Env) (mix : ℕ → ℕ → ℕ → ℕ) (c : ℕ) (port owner :
               back_one = λ p e. absurd (cc);
               single = λ one. absurd (let none = whole.owned.single one port m behind bound in cc);
             } in
+            let there =
+            found_in found (link_of second) is.found behind k.means.table (idle_moves_none env mix M G whole c k.only) bound in
             first_out found (link_of second) behind (s.front ++ (second ∷ s.rear)) second (First j)
             (G.raised c) false
             (sym k.only.raising) (record {
@@ -543,12 +491,8 @@ module _ (env : Env) (mix : ℕ → ℕ → ℕ → ℕ) (c : ℕ) (port owner :
               before_in = before_in;
               with_other = inr (other, ap (is_taken_by c) mine, refl);
               not_held = λ e. cc;
-              made = replace env mix c port j m s.front s.rear found.before M (after op) G whole behind
-                  (found_in found (link_of second) is.found behind k.means.table
-                  (idle_moves_none env mix M G whole c k.only) bound) second tail (Taken c) can
-                  (first_write found (link_of second) lock.bucket before_in);
-              ready = inr (inl (replacing_known env mix c port j m s.front s.rear found.before M
-                  (after op) G behind
-                  (found_in found (link_of second) is.found behind k.means.table
-                  (idle_moves_none env mix M G whole c k.only) bound) second tail (Taken c) can));
+              made = replace env mix c port j m s.front s.rear found.before M (after op) G whole behind there second tail
+                  (Taken c) can (first_write found (link_of second) lock.bucket before_in);
+              ready = inr (inl (replacing_known env mix c port j m s.front s.rear found.before M (after op) G behind there
+                  second tail (Taken c) can));
             })

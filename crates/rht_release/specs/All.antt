@@ -1,5 +1,5 @@
 -- The listing of a port's owners: what each state performs, and what comes after it.
-use Rattle.std.specs.Prelude.{◌≡◌, ℕ, ◌^◌, ◌<◌, Option, None, Some, [], length}
+use Rattle.std.specs.Prelude.{◌≡◌, ℕ, ◌<◌, Option, None, Some, [], length}
 use Rattle.rht_words.specs.declared.op.Op.{Op}
 use Rattle.rht_words.specs.declared.op.Op.TheVariants.{Load}
 use Rattle.rht_words.specs.declared.machine.Next.{Next}

@@ -2,6 +2,8 @@
 pub mod FoundPort
 -- the way to a port, through the tables
 pub mod Seek
+-- the search for an owner in a port's list
+pub mod ListSearch
 -- the removal, state by state
 pub mod Release
 -- what a release holds

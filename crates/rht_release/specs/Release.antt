@@ -1,5 +1,5 @@
 -- The taking out of one binding: what each state performs, and what comes after it.
-use Rattle.std.specs.Prelude.{◌≡◌, ℕ, ◌-◌, ◌^◌, ◌<◌, ◌==◌, ◌&&◌, Bool, false, min, Option, None, Some, if◌then◌else◌}
+use Rattle.std.specs.Prelude.{◌≡◌, ℕ, ◌-◌, ◌^◌, ◌<◌, ◌&&◌, Bool, false, min, Option, None, Some}
 use Rattle.rht_words.specs.declared.op.Op.{Op}
 use Rattle.rht_words.specs.declared.op.Op.TheVariants.{Load, Store, Sub}
 use Rattle.rht_words.specs.declared.machine.Next.{Next}
@@ -8,9 +8,9 @@ use Rattle.rht_words.specs.declared.env.Env.{Env}
 use Rattle.rht_words.specs.declared.geometry.Geometry.{Geometry}
 use Rattle.rht_words.specs.Links.{link_of, node_of}
 use Rattle.rht_words.specs.Planned.{IsWord}
-use Rattle.rht_words.specs.Ports.{IsPort, owner_of}
+use Rattle.rht_words.specs.Ports.{IsPort}
 use Rattle.rht_words.specs.Shapes.{size_of, unpacked}
-use Rattle.rht_words.specs.Places.{PortCount, Node, ChainLink, OwnerWord, ListLink, place_of}
+use Rattle.rht_words.specs.Places.{PortCount, Node, ChainLink, ListLink, place_of}
 use Rattle.rht_policy.specs.Thresholds.{is_below_30}
 use Rattle.rht_grace.specs.Sections.{turning}
 use Rattle.rht_chain.specs.LockedWalk.{IsNodeOrNone}
@@ -19,9 +19,12 @@ use Rattle.rht_chain.specs.Unlock.{unlock_plan, IsUnlockIn}
 use Rattle.rht_chain.specs.declared.unlock.Unlock.{Unlock}
 use Rattle.rht_model.specs.declared.history.Reply.{Reply}
 use Rattle.rht_model.specs.declared.history.Reply.TheVariants.{Released, Absent}
-use Rattle.rht_release.specs.FoundPort.{relink_of, unlock_of, IsFoundPortIn, IsAtNodeIn}
+use Rattle.rht_release.specs.FoundPort.{relink_of, unlock_of, IsFoundPortIn}
+use Rattle.rht_release.specs.ListSearch.{search_new, search_plan, search_after, IsSearchIn}
 use Rattle.rht_release.specs.Seek.{SeekModel, seek_new, seek_plan, seek_after, IsSeekIn}
 use Rattle.rht_release.specs.declared.found_port.FoundPort.{FoundPort}
+use Rattle.rht_release.specs.declared.list_search.ListPlace.{ListPlace}
+use Rattle.rht_release.specs.declared.list_search.ListSearch.{ListSearch}
 use Rattle.rht_release.specs.declared.release.ReleaseAt.{ReleaseAt}
 use Rattle.rht_release.specs.declared.release.ReleaseAt.TheVariants as at
 
@@ -42,8 +45,7 @@ release_new env caller port owner =
 abbrev pub plan_at : Env → ℕ → ReleaseAt → Op
 plan_at env caller at.Opening = turning caller
 plan_at env caller (at.Seeking seek) = seek_plan seek
-plan_at env caller (at.Owner found node before) = Load (place_of env.geometry (Node node OwnerWord))
-plan_at env caller (at.ListLink found node) = Load (place_of env.geometry (Node node ListLink))
+plan_at env caller (at.Searching found search) = search_plan env.geometry search
 plan_at env caller (at.LinkBehind found node before) = Load (place_of env.geometry (Node node ListLink))
 plan_at env caller (at.CuttingOut found node before link) = Store (place_of env.geometry (Node before ListLink)) link
 plan_at env caller (at.ChainLink found second) = Load (place_of env.geometry (Node found.node ChainLink))
@@ -71,21 +73,17 @@ removed_reply (Some node) = Released false
 abbrev pub sought : SeekModel → Next (Option FoundPort) → ReleaseAt
 sought seek Go = at.Seeking seek
 sought seek (Done None) = closing Absent None
-sought seek (Done (Some found)) = at.Owner found found.node None
-
--- a node with the owner is taken out, and behind another one the list goes on
-abbrev pub owner_compared : FoundPort → ℕ → Option ℕ → Bool → ReleaseAt
-owner_compared found node before equal =
-    if equal then at.LinkBehind found node before else at.ListLink found node
+sought seek (Done (Some found)) = at.Searching found (search_new found.node)
 
 -- the bucket is unlocked; where no node was taken out no owner was the one
 abbrev pub unlocking : FoundPort → Option ℕ → ReleaseAt
 unlocking found removed = at.Unlocking found.table (unlock_of found) removed
 
--- the next node of the list is looked at; behind the last one the port isn't bound to the owner
-abbrev pub list_followed : FoundPort → ℕ → Option ℕ → ReleaseAt
-list_followed found node None = unlocking found None
-list_followed found node (Some next) = at.Owner found next (Some node)
+-- what comes after an operation along the list: a node with the owner is taken out; behind the last one the port isn't bound to the owner
+abbrev pub searched : FoundPort → ListSearch → Next (Option ListPlace) → ReleaseAt
+searched found search Go = at.Searching found search
+searched found search (Done None) = unlocking found None
+searched found search (Done (Some place)) = at.LinkBehind found place.node place.before
 
 -- a later node of the list is cut out of it; the first one is in the chain, where a second one takes
 -- its place
@@ -122,10 +120,8 @@ abbrev pub after_at : (ℕ → ℕ → ℕ → ℕ) → Env → ℕ → ℕ → 
 after_at mix env port owner at.Opening word = (at.Seeking (seek_new env.geometry), Go)
 after_at mix env port owner (at.Seeking seek) word =
     (sought (seek_after mix port seek word).0 (seek_after mix port seek word).1, Go)
-after_at mix env port owner (at.Owner found node before) word =
-    (owner_compared found node before (owner_of word == owner), Go)
-after_at mix env port owner (at.ListLink found node) word =
-    (list_followed found node (node_of env.geometry.nodes word), Go)
+after_at mix env port owner (at.Searching found search) word =
+    (searched found (search_after env.geometry owner search word).0 (search_after env.geometry owner search word).1, Go)
 after_at mix env port owner (at.LinkBehind found node before) word =
     (cut_or_chain env.geometry found node word before, Go)
 after_at mix env port owner (at.CuttingOut found node before link) word = (unlocking found (Some node), Go)
@@ -149,6 +145,11 @@ abbrev pub release_after : (ℕ → ℕ → ℕ → ℕ) → ReleaseModel → �
 release_after mix m word = moved m (after_at mix m.env m.port m.owner m.at word)
 
 -- ---- what a release names
+
+-- it looks for the owner in the port's list
+pub record IsSearchingIn (g : Geometry) (found : FoundPort) (search : ListSearch) : Type 0 where
+  pub found_in : IsFoundPortIn g found
+  pub search_in : IsSearchIn g search
 
 -- it stands at a node of the port's list, behind another one or none
 pub record IsInListIn (g : Geometry) (found : FoundPort) (node : ℕ) (before : Option ℕ) : Type 0 where
@@ -194,8 +195,7 @@ pub record IsUnlockingIn (g : Geometry) (table : ℕ) (unlock : Unlock) (removed
 abbrev pub IsReleaseAtIn : Env → ReleaseAt → Type 0
 IsReleaseAtIn env at.Opening = Unit {0}
 IsReleaseAtIn env (at.Seeking seek) = IsSeekIn env.geometry seek
-IsReleaseAtIn env (at.Owner found node before) = IsInListIn env.geometry found node before
-IsReleaseAtIn env (at.ListLink found node) = IsAtNodeIn env.geometry found node
+IsReleaseAtIn env (at.Searching found search) = IsSearchingIn env.geometry found search
 IsReleaseAtIn env (at.LinkBehind found node before) = IsInListIn env.geometry found node before
 IsReleaseAtIn env (at.CuttingOut found node before link) = IsCuttingOutIn env.geometry found node before link
 IsReleaseAtIn env (at.ChainLink found second) = IsChainLinkIn env.geometry found second

@@ -44,8 +44,7 @@ held_of_release (at.Seeking seek) =
       answer = answer_of_seek (plain Absent) seek.at;
       early = early_of_seek (plain Absent) seek.at;
     }
-held_of_release (at.Owner found node before) = holds_bucket found
-held_of_release (at.ListLink found node) = holds_bucket found
+held_of_release (at.Searching found search) = holds_bucket found
 held_of_release (at.LinkBehind found node before) = holds_bucket found
 held_of_release (at.CuttingOut found node before link) = holds_bucket found
 held_of_release (at.ChainLink found second) = holds_bucket found

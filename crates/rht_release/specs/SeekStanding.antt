@@ -6,6 +6,8 @@ use Rattle.rht_nest.specs.LocateTables.{tables_of_locate}
 use Rattle.rht_chain.specs.ChainNodes.{nodes_of_probe, nodes_of_relink}
 use Rattle.rht_chain.specs.Relink.{RelinkModel}
 use Rattle.rht_release.specs.declared.found_port.FoundPort.{FoundPort}
+use Rattle.rht_release.specs.declared.list_search.ListSearch.{ListSearch}
+use Rattle.rht_release.specs.declared.list_search.ListSearch.TheVariants as searches
 use Rattle.rht_release.specs.declared.seek.SeekAt.{SeekAt}
 use Rattle.rht_release.specs.declared.seek.SeekAt.TheVariants as at
 
@@ -24,3 +26,8 @@ at_found found listed =
 -- at the node that gets another link
 abbrev pub at_relink : FoundPort → RelinkModel → Standing
 at_relink found relink = stands_at (found.table ∷ []) (nodes_of_relink relink.at)
+
+-- at the node of the list that it looks at, and at the one before
+abbrev pub nodes_of_search : ListSearch → List ℕ
+nodes_of_search (searches.Owner node before) = node ∷ if_one before
+nodes_of_search (searches.ListLink node) = node ∷ []

@@ -7,16 +7,18 @@ ghost use Rattle.rht_arena.specs.NewNode.{new_node_after};
 ghost use Rattle.rht_chain.specs.LockedWalk.{IsNodeOrNone};
 ghost use Rattle.rht_chain.specs.Relink.{relink_after};
 ghost use Rattle.rht_release.specs.Seek.{seek_after};
-ghost use Rattle.rht_release.specs.Rebind.{rebind_new, rebind_plan, rebind_after, after_at, filled, giving, sought, owner_compared, replacing, replaced, absent, closed, IsRebindAtIn, IsRebindEndIn};
+ghost use Rattle.rht_release.specs.ListSearch.{search_after, IsSearchIn};
+ghost use Rattle.rht_release.specs.Rebind.{rebind_new, rebind_plan, rebind_after, after_at, filled, giving, sought, searched, swap_or_chain, unlocking, replacing, replaced, absent, closed, IsRebindAtIn, IsRebindEndIn};
 
 use crate::found_port::FoundPort;
+use crate::list_search::ListSearch;
 use crate::seek::Seek;
 use rht_arena::{GiveNode, NewNode};
 use rht_chain::{Relink, Unlock};
 use rht_grace::{Enter, Leave};
 use rht_model::Reply;
 use rht_policy::Mix;
-use rht_words::{Env, Geometry, Next, Op, Port, link_of, owner_of, word_of};
+use rht_words::{Env, Geometry, Next, Op, Port, link_of, word_of};
 use std::marker::{Model, PhantomData};
 
 /// How a rebind has gone that closes its read section.
@@ -44,14 +46,38 @@ pub enum RebindAt {
         node: u32,
         seek: Seek,
     },
-    /// Loads the port's owner. Where it is another one than the old owner, the port isn't bound to
-    /// that one at this moment.
-    Owner {
+    /// Looks for the first node of the port's list with the old owner. Behind the last node the port
+    /// isn't bound to that owner.
+    Searching {
         node: u32,
         found: FoundPort,
+        search: ListSearch,
     },
-    /// Loads the link behind the old node in the chain. This and the two states behind it are
-    /// those of the kernel's `__rhashtable_replace_fast`.
+    /// Loads the link behind the old node in the list.
+    LinkBehind {
+        node: u32,
+        found: FoundPort,
+        old: u32,
+        before: Option<u32>,
+    },
+    /// Stores that link in the new node, which nobody else sees yet.
+    OwnListLink {
+        node: u32,
+        found: FoundPort,
+        old: u32,
+        before: Option<u32>,
+        link: u64,
+    },
+    /// Puts the new node in a later one's place, by the link of the node before in the list. The new
+    /// owner is bound from here on. The kernel replaces no node within a list.
+    Swapping {
+        node: u32,
+        found: FoundPort,
+        old: u32,
+        before: u32,
+    },
+    /// Loads the link behind the old node in the chain, where that is the list's first. This and the
+    /// two states behind it are those of the kernel's `__rhashtable_replace_fast`.
     ChainLink {
         node: u32,
         found: FoundPort,
@@ -69,11 +95,11 @@ pub enum RebindAt {
         found: FoundPort,
         relink: Relink,
     },
-    /// Unlocks the bucket without a change.
+    /// Unlocks the bucket, whose word is as it was before.
     Unlocking {
-        node: u32,
         table: u32,
         unlock: Unlock,
+        end: RebindEnd,
     },
     /// Closes the read section, by one more in the section word.
     Closing {
@@ -85,9 +111,9 @@ pub enum RebindAt {
     },
 }
 
-/// Puts a new owner in the place of a port's only one, in a table of one owner for each port. The
-/// answers are `Rebound`, with the node that was taken out, and `Absent` and `NoNode`. The kernel's
-/// counterpart is `rhashtable_replace_fast`.
+/// Puts a new owner in the place of the first owner of a port that is the old one. The answers are
+/// `Rebound`, with the node that was taken out, and `Absent` and `NoNode`. The kernel's counterpart is
+/// `rhashtable_replace_fast`, which follows no list.
 #[derive(Drop)]
 pub struct Rebind<M: Mix> {
     env: Env,
@@ -158,7 +184,12 @@ impl<M: Mix> Rebind<M> {
             RebindAt::Filling { new } => new.plan(),
             RebindAt::Opening { .. } => Enter::new(self.caller).plan(),
             RebindAt::Seeking { seek, .. } => seek.plan(),
-            RebindAt::Owner { found, .. } => Op::load(geometry.owner(found.node)),
+            RebindAt::Searching { search, .. } => search.plan(geometry),
+            RebindAt::LinkBehind { old, .. } => Op::load(geometry.list_link(old)),
+            RebindAt::OwnListLink { node, link, .. } => Op::store(geometry.list_link(node), link),
+            RebindAt::Swapping { node, before, .. } => {
+                Op::store(geometry.list_link(before), link_of(node))
+            }
             RebindAt::ChainLink { found, .. } => Op::load(geometry.chain_link(found.node)),
             RebindAt::Link { node, link, .. } => Op::store(geometry.chain_link(node), link),
             RebindAt::Replacing { relink, .. } => relink.plan(),
@@ -200,7 +231,33 @@ fn after<M: Mix>(
             seek: Seek::new(geometry),
         },
         RebindAt::Seeking { node, seek } => sought::<M>(port, node, seek, old),
-        RebindAt::Owner { node, found } => owner_compared(node, found, owner_of(old) == owner),
+        RebindAt::Searching {
+            node,
+            found,
+            search,
+        } => searched(geometry, owner, node, found, search, old),
+        RebindAt::LinkBehind {
+            node,
+            found,
+            old: replaced,
+            before,
+        } => RebindAt::OwnListLink {
+            node,
+            found,
+            old: replaced,
+            before,
+            link: old,
+        },
+        RebindAt::OwnListLink {
+            node,
+            found,
+            old,
+            before,
+            ..
+        } => swap_or_chain(node, found, old, before),
+        RebindAt::Swapping { found, old, .. } => {
+            unlocking(found, RebindEnd::Rebound { removed: old })
+        }
         RebindAt::ChainLink { node, found } => RebindAt::Link {
             node,
             found,
@@ -212,7 +269,7 @@ fn after<M: Mix>(
             found,
             relink,
         } => replaced(node, found, relink),
-        RebindAt::Unlocking { node, .. } => absent(node),
+        RebindAt::Unlocking { end, .. } => RebindAt::Closing { end },
         RebindAt::Closing { end } => return closed(geometry, end),
         RebindAt::Giving { .. } => return (*at, Next::Done((Reply::Absent, None))),
     };
@@ -232,7 +289,8 @@ fn filled(new: NewNode, old: u64) -> (RebindAt, Next<(Reply, Option<u32>)>)
     }
 }
 
-/// After an operation on the way. Where the port was found its owner is looked at.
+/// After an operation on the way. Where the port was found its owners are looked at, from the
+/// first on.
 #[inline(always)]
 fn sought<M: Mix>(port: Port, node: u32, seek: Seek, old: u64) -> RebindAt
     ensures { result ≡ sought node (seek_after M.mix_of port seek old).0 (seek_after M.mix_of port seek old).1 }
@@ -240,24 +298,72 @@ fn sought<M: Mix>(port: Port, node: u32, seek: Seek, old: u64) -> RebindAt
     let (seek, next) = seek.after::<M>(port, old);
     match next {
         Next::Go => RebindAt::Seeking { node, seek },
-        Next::Done(Some(found)) => RebindAt::Owner { node, found },
+        Next::Done(Some(found)) => RebindAt::Searching {
+            node,
+            found,
+            search: ListSearch::new(found.node),
+        },
         Next::Done(None) => absent(node),
     }
 }
 
-/// The node with the old owner is replaced. With another owner the bucket is unlocked.
+/// After an operation along the list. A node with the old owner is replaced. Behind the last one the
+/// port isn't bound to that owner.
 #[inline(always)]
-pub fn owner_compared(node: u32, found: FoundPort, equal: bool) -> RebindAt
-    ensures { result ≡ owner_compared node found equal }
+fn searched(
+    geometry: Geometry,
+    owner: u32,
+    node: u32,
+    found: FoundPort,
+    search: ListSearch,
+    old: u64,
+) -> RebindAt
+    requires { IsSearchIn geometry search }
+    ensures { result ≡ searched node found (search_after geometry owner search old).0 (search_after geometry owner search old).1 }
 {
-    if equal {
-        RebindAt::ChainLink { node, found }
-    } else {
-        RebindAt::Unlocking {
+    let (search, next) = search.after(geometry, owner, old);
+    match next {
+        Next::Go => RebindAt::Searching {
             node,
-            table: found.table,
-            unlock: found.unlock(),
-        }
+            found,
+            search,
+        },
+        Next::Done(None) => unlocking(found, RebindEnd::Absent { node }),
+        Next::Done(Some(place)) => RebindAt::LinkBehind {
+            node,
+            found,
+            old: place.node,
+            before: place.before,
+        },
+    }
+}
+
+/// A later node of the list is replaced in the list. The first one is in the chain, and is replaced
+/// there.
+#[inline(always)]
+pub fn swap_or_chain(node: u32, found: FoundPort, old: u32, before: Option<u32>) -> RebindAt
+    ensures { result ≡ swap_or_chain node found old before }
+{
+    match before {
+        Some(before) => RebindAt::Swapping {
+            node,
+            found,
+            old,
+            before,
+        },
+        None => RebindAt::ChainLink { node, found },
+    }
+}
+
+/// The unlocking of the bucket, with this end.
+#[inline(always)]
+pub fn unlocking(found: FoundPort, end: RebindEnd) -> RebindAt
+    ensures { result ≡ unlocking found end }
+{
+    RebindAt::Unlocking {
+        table: found.table,
+        unlock: found.unlock(),
+        end,
     }
 }
 

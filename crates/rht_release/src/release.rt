@@ -6,15 +6,17 @@ ghost use Rattle.rht_words.specs.Places.{words_in};
 ghost use Rattle.rht_chain.specs.LockedWalk.{IsNodeOrNone};
 ghost use Rattle.rht_chain.specs.Relink.{relink_after};
 ghost use Rattle.rht_release.specs.Seek.{seek_after};
-ghost use Rattle.rht_release.specs.Release.{release_new, release_plan, release_after, after_at, removed_reply, sought, owner_compared, unlocking, list_followed, cut_or_chain, unlink_or_promote, promoting, promoted, unlinked, closing, kicks, IsReleaseAtIn};
+ghost use Rattle.rht_release.specs.ListSearch.{search_after, IsSearchIn};
+ghost use Rattle.rht_release.specs.Release.{release_new, release_plan, release_after, after_at, removed_reply, sought, searched, unlocking, cut_or_chain, unlink_or_promote, promoting, promoted, unlinked, closing, kicks, IsReleaseAtIn};
 
 use crate::found_port::FoundPort;
+use crate::list_search::{ListPlace, ListSearch};
 use crate::seek::Seek;
 use rht_chain::{Relink, Unlock};
 use rht_grace::{Enter, Leave};
 use rht_model::Reply;
 use rht_policy::{Mix, below_30};
-use rht_words::{Env, Geometry, Next, Op, Port, Shape, link_of, node_of, owner_of, places};
+use rht_words::{Env, Geometry, Next, Op, Port, Shape, link_of, node_of, places};
 use std::marker::{Model, PhantomData};
 
 /// Where a release stands. Each state but those that hold a piece has one operation. While it has
@@ -27,17 +29,11 @@ pub enum ReleaseAt {
     Seeking {
         seek: Seek,
     },
-    /// Loads the owner of a node of the port's list, behind this one.
-    Owner {
+    /// Looks for the first node of the port's list with the owner. Behind the last node the port isn't
+    /// bound to the owner.
+    Searching {
         found: FoundPort,
-        node: u32,
-        before: Option<u32>,
-    },
-    /// Loads the link behind a node with another owner. Behind the last one the port isn't bound
-    /// to the owner.
-    ListLink {
-        found: FoundPort,
-        node: u32,
+        search: ListSearch,
     },
     /// Loads the link behind the first node with the owner. This and the states from here on are
     /// those of the kernel's `__rhashtable_remove_fast_one`.
@@ -162,10 +158,8 @@ impl<M: Mix> Release<M> {
         match self.at {
             ReleaseAt::Opening => Enter::new(self.caller).plan(),
             ReleaseAt::Seeking { seek } => seek.plan(),
-            ReleaseAt::Owner { node, .. } => Op::load(geometry.owner(node)),
-            ReleaseAt::ListLink { node, .. } | ReleaseAt::LinkBehind { node, .. } => {
-                Op::load(geometry.list_link(node))
-            }
+            ReleaseAt::Searching { search, .. } => search.plan(geometry),
+            ReleaseAt::LinkBehind { node, .. } => Op::load(geometry.list_link(node)),
             ReleaseAt::CuttingOut { before, link, .. } => {
                 Op::store(geometry.list_link(before), link)
             }
@@ -212,14 +206,7 @@ fn after<M: Mix>(
             seek: Seek::new(geometry),
         },
         ReleaseAt::Seeking { seek } => sought::<M>(port, seek, old),
-        ReleaseAt::Owner {
-            found,
-            node,
-            before,
-        } => owner_compared(found, node, before, owner_of(old) == owner),
-        ReleaseAt::ListLink { found, node } => {
-            list_followed(found, node, node_of(geometry.nodes, old))
-        }
+        ReleaseAt::Searching { found, search } => searched(geometry, owner, found, search, old),
         ReleaseAt::LinkBehind {
             found,
             node,
@@ -250,42 +237,35 @@ fn sought<M: Mix>(port: Port, seek: Seek, old: u64) -> ReleaseAt
     match next {
         Next::Go => ReleaseAt::Seeking { seek },
         Next::Done(None) => closing(Reply::Absent, None),
-        Next::Done(Some(found)) => ReleaseAt::Owner {
+        Next::Done(Some(found)) => ReleaseAt::Searching {
             found,
-            node: found.node,
-            before: None,
+            search: ListSearch::new(found.node),
         },
     }
 }
 
-/// A node with the owner is taken out, and behind another one the list goes on.
+/// After an operation along the list. A node with the owner is taken out. Behind the last one the port
+/// isn't bound to the owner.
 #[inline(always)]
-pub fn owner_compared(found: FoundPort, node: u32, before: Option<u32>, equal: bool) -> ReleaseAt
-    ensures { result ≡ owner_compared found node before equal }
+fn searched(
+    geometry: Geometry,
+    owner: u32,
+    found: FoundPort,
+    search: ListSearch,
+    old: u64,
+) -> ReleaseAt
+    requires { IsSearchIn geometry search }
+    ensures { result ≡ searched found (search_after geometry owner search old).0 (search_after geometry owner search old).1 }
 {
-    if equal {
-        ReleaseAt::LinkBehind {
+    let (search, next) = search.after(geometry, owner, old);
+    match next {
+        Next::Go => ReleaseAt::Searching { found, search },
+        Next::Done(None) => unlocking(found, None),
+        Next::Done(Some(ListPlace { node, before })) => ReleaseAt::LinkBehind {
             found,
             node,
             before,
-        }
-    } else {
-        ReleaseAt::ListLink { found, node }
-    }
-}
-
-/// The next node of the list is looked at. Behind the last one, the port isn't bound to the owner.
-#[inline(always)]
-pub fn list_followed(found: FoundPort, node: u32, next: Option<u32>) -> ReleaseAt
-    ensures { result ≡ list_followed found node next }
-{
-    match next {
-        Some(next) => ReleaseAt::Owner {
-            found,
-            node: next,
-            before: Some(node),
         },
-        None => unlocking(found, None),
     }
 }
 

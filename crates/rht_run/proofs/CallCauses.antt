@@ -49,7 +49,7 @@ module _ {M : Type 0} (mix : ℕ → ℕ → ℕ → ℕ) (t : Table M) (call : 
 
   -- What is so of each call that has ended in a run is so of a finished call of the pass, at its place.
   traced_behind : (Fact : Env → List Event → ℕ → Past → Type 0)
-      → ((events : List Event) → IsAdmitted t.env.config.kind events
+      → ((events : List Event) → IsAdmitted events
       → AllByRecursion (Fact t.env events now.number) ((traced_of {M = M} mix t.env events).traces now.number).past)
       → (earlier rest : List Finished) → IsPassOf mix t now
       → (book_of now).finished ≡ ((book_of before).finished ++ earlier) ++ done_now ∷ rest
@@ -57,8 +57,8 @@ module _ {M : Type 0} (mix : ℕ → ℕ → ℕ → ℕ) (t : Table M) (call : 
   traced_behind Fact each earlier rest is finished =
       let events = is.in_run.events in
       let c = now.number in
-      let admitted : IsAdmitted t.env.config.kind events =
-      subst (λ (e : Env). IsAdmitted e.config.kind events) is.same_env is.in_run.admitted in
+      let admitted : IsAdmitted events =
+      subst (λ (e : Env). IsAdmitted events) is.same_env is.in_run.admitted in
       let shows : Shows t.env (run_of mix t.env events) (held_at c (seen_by now)) =
       subst (λ (e : Env). Shows e (run_of mix e events) (held_at c (seen_by now))) is.same_env
       (is.in_run.shows (held_at c (seen_by now)) (in_one (held_at c (seen_by now)) now.seat.me.0.held is.held)) in
@@ -84,7 +84,7 @@ module _ {M : Type 0} (mix : ℕ → ℕ → ℕ → ℕ) (t : Table M) (call : 
 
   -- so it is of the first one behind those of `before`
   pub traced_call : (Fact : Env → List Event → ℕ → Past → Type 0)
-      → ((events : List Event) → IsAdmitted t.env.config.kind events
+      → ((events : List Event) → IsAdmitted events
       → AllByRecursion (Fact t.env events now.number) ((traced_of {M = M} mix t.env events).traces now.number).past)
       → (rest : List Finished) → IsPassOf mix t now → (book_of now).finished ≡ (book_of before).finished ++ done_now ∷ rest
       → IsTracedCall mix t call reply before now Fact

@@ -5,7 +5,6 @@ use Rattle.std.specs.Prelude.{Option, Some, None}
 use Rattle.std.specs.List.{AllByRecursion, last_or}
 use Rattle.atomic_table.specs.declared.shared.Seat.{Seat}
 use Rattle.rht_words.specs.declared.env.Env.{Env}
-use Rattle.rht_words.specs.declared.config.Kind.TheVariants.{Single}
 use Rattle.rht_words.specs.Ports.{IsPort}
 use Rattle.rht_release.specs.Rebind.{rebind_new}
 use Rattle.rht_model.specs.declared.history.Call.{Call}
@@ -16,7 +15,7 @@ use Rattle.rht_model.specs.declared.finished.Finished.{Finished}
 use Rattle.rht_core.specs.declared.book.Book.{Book}
 use Rattle.rht_callers.specs.declared.local.Local.{Local}
 use Rattle.rht_callers.specs.declared.local.Doing.TheVariants.{Idle, Rebinding}
-use Rattle.rht_core.specs.Locals.{is_idle, rebinding_of, local_after, ending_of}
+use Rattle.rht_core.specs.Locals.{is_idle, local_after, ending_of}
 use Rattle.rht_core.specs.Runs.{View, book_after}
 use Rattle.rht_core.specs.Replies.{IsRightlyAnswered, IsFindReply, IsReleaseReply, AnswersIn, owners_with, pairs_with}
 use Rattle.rht_core.proofs.Events.BusyCallers.{goes_on, ends}
@@ -132,14 +131,3 @@ module _ {M : Type 0} where
   last_pairs mix t p is idle =
       (answers mix t p is).lists.pairs
       ∙ ap (λ b. cond b (pairs_with (last_or None (book_of p).finished)) []) idle
-
-  -- a rebind may begin in a table of one owner each
-  pub may_rebind : (env : Env) (c port owner new : ℕ) (local : Local M) → env.config.kind ≡ Single → is_idle local ≡ true
-      → IsPort port → owner < 2 ^ 32 → new < 2 ^ 32 → MayBegin env c (Rebind port owner new) local
-  may_rebind env c port owner new local single idle port_in owner_in new_in = record {
-    idle = idle;
-    admitted = (port_in, owner_in, new_in);
-    built = λ listed. absurd (let same = sym single ∙ listed in cc);
-    machine = Rebinding (rebind_new env c port owner new);
-    machine_is = ap (rebinding_of env c port owner new) single;
-  }

@@ -44,17 +44,17 @@ module _ (M : Type 0) (mix : ℕ → ℕ → ℕ → ℕ) (env : Env) where
   S = State (Unit {0}) (SeatView M)
 
   -- a run with one more event is a run
-  pub admitted_more : (events : List Event) (event : Event) → IsAdmitted env.config.kind events
-      → IsAdmittedEvent env.config.kind event → IsAdmitted env.config.kind (events ++ event ∷ [])
+  pub admitted_more : (events : List Event) (event : Event) → IsAdmitted events
+      → IsAdmittedEvent event → IsAdmitted (events ++ event ∷ [])
   admitted_more events event admitted more =
-      AllByRecursion-append (IsAdmittedEvent env.config.kind) events (event ∷ []) admitted (more, tt)
+      AllByRecursion-append IsAdmittedEvent events (event ∷ []) admitted (more, tt)
 
   -- what a view of a table says is so in one run
   pub in_run : (s : S) → Holds mix env s → (id : ℕ) (v : SeatView M) → get_elem? s.views id ≡ some v → v.env ≡ env
       → IsInRun mix v
   in_run s r id v at same = record {
     events = r.events;
-    admitted = subst (λ (e : Env). IsAdmitted e.config.kind r.events) (sym same) r.admitted;
+    admitted = subst (λ (e : Env). IsAdmitted r.events) (sym same) r.admitted;
     shows = λ h i. subst (λ (e : Env). Shows e (run_of mix e r.events) h) (sym same) (r.shows id v at h i).shows;
   }
 
@@ -71,8 +71,8 @@ module _ (M : Type 0) (mix : ℕ → ℕ → ℕ → ℕ) (env : Env) where
     number_fits = omega (arith, shows.below, env.agrees.callers_same, env.settled.geometry.callers_within.1)
 
     pub begin_admitted : (call : Call) → MayBegin env held.number call held.local
-        → IsAdmittedEvent env.config.kind (Begin held.number call)
-    begin_admitted call can = (number_fits, can.admitted, can.built)
+        → IsAdmittedEvent (Begin held.number call)
+    begin_admitted call can = (number_fits, can.admitted)
 
     -- one more event gives it a call that it may begin
     pub begin_shown : (call : Call) → MayBegin env held.number call held.local
@@ -110,7 +110,7 @@ module _ (M : Type 0) (mix : ℕ → ℕ → ℕ → ℕ) (env : Env) where
 
     pub event_holds : get_elem? s.views id ≡ some v → v.held ≡ h ∷ [] → v'.held ≡ h' ∷ [] → v'.env ≡ v.env
         → v'.drawn ≡ v.drawn → h'.number ≡ h.number
-        → IsAdmittedEvent env.config.kind e → IsOfCaller e → IsLaidOut ws W'.core.words
+        → IsAdmittedEvent e → IsOfCaller e → IsLaidOut ws W'.core.words
         → view_of W' h.number ≡ view_in h'
         → ((k : ℕ) → k ≢ h.number → view_of W' k ≡ view_of W k)
         → Holds mix env record { words = ws; homes = s.homes; views = set s.views id v' }

@@ -41,7 +41,7 @@ find_bound-small env =
 
 module _ (M : Type 0) (mix : ℕ → ℕ → ℕ → ℕ) where
   -- the look-up that a caller is in has made no more operations than the bound
-  short_now : (env : Env) (events : List Event) (c : ℕ) (port : ℕ) → IsAdmitted env.config.kind events
+  short_now : (env : Env) (events : List Event) (c : ℕ) (port : ℕ) → IsAdmitted events
       → let w : World M = run_of mix env events in
       (w.books c).call ≡ Some (Find port) → (w.books c).steps ≤ find_bound env
   short_now env events c port admitted asked =
@@ -79,7 +79,7 @@ module _ {M : Type 0} (mix : ℕ → ℕ → ℕ → ℕ) (t : Table M) where
   ReadsRightly env c past =
       IsShort env past.done.call past.steps × ((port : ℕ) → past.done.call ≡ Find port → HasRead env.geometry c past.steps)
 
-  all_looked : (c : ℕ) (events : List Event) → IsAdmitted t.env.config.kind events
+  all_looked : (c : ℕ) (events : List Event) → IsAdmitted events
       → AllByRecursion (Looked t.env events c) ((traced_of {M = M} mix t.env events).traces c).past
   all_looked c events admitted =
       AllByRecursion-both (ReadsRightly t.env c) (TakesEffectRightly t.env events) (Looked t.env events c)

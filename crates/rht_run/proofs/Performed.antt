@@ -88,7 +88,7 @@ module _ {M : Type 0} where
 
     -- what every run has of a caller holds of the pass
     pub of_run : (So : Env → ℕ → Local M → Book → Type 0)
-        → ((e : Env) (events : List Event) (c : ℕ) → IsAdmitted e.config.kind events
+        → ((e : Env) (events : List Event) (c : ℕ) → IsAdmitted events
         → let w : World M = run_of mix e events in So e c (local_of w.core c) (w.books c))
         → So t.env p.number p.local (book_of p)
     of_run So law =
@@ -130,8 +130,8 @@ module _ {M : Type 0} where
         shows = subst (λ (e : Env). Shows e (run_of mix e is.in_run.events) held) is.same_env
             (is.in_run.shows held (in_one held p.seat.me.0.held is.held))
 
-        admitted : IsAdmitted t.env.config.kind is.in_run.events
-        admitted = subst (λ (e : Env). IsAdmitted e.config.kind is.in_run.events) is.same_env is.in_run.admitted
+        admitted : IsAdmitted is.in_run.events
+        admitted = subst (λ (e : Env). IsAdmitted is.in_run.events) is.same_env is.in_run.admitted
 
         go : (begins : Option Call) → CanGo t.env p.number begins p.local
             → plan_of (local_then t.env p.number begins p.local) ≡ Some op → IsPlannedIn t.env.geometry op

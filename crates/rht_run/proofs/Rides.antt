@@ -25,7 +25,7 @@ use Rattle.rht_release.specs.Rebind.{rebind_after}
 use Rattle.rht_move.specs.Work.{work_after}
 use Rattle.rht_walk.specs.Walk.{Pairs, WalkModel}
 use Rattle.rht_core.specs.Locals.{does_nothing, is_idle, machine_of, doing_plan, plan_of, doing_after, doing_next, without_node, owners_beside, owners_after, pairs_beside, pairs_after, begun_with, local_after, ending_of}
-use Rattle.rht_core.specs.Runs.{book_begun, book_after, finished_with, IsAdmittedCall, IsBuiltFor}
+use Rattle.rht_core.specs.Runs.{book_begun, book_after, finished_with, IsAdmittedCall}
 use Rattle.rht_core.specs.Laws.{IsDoingIn}
 use Rattle.rht_run.specs.declared.seats.Held.{Held}
 use Rattle.rht_run.specs.declared.seats.SeatView.{SeatView}
@@ -212,11 +212,11 @@ module _ {M : Type 0} (mix : ℕ → ℕ → ℕ → ℕ) (t : Table M) (r : Rid
     begins-own is begins = ap (λ (batch : Option BatchModel). machine_of t.env r.number batch r.call) is.batch ∙ begins
 
     pub may_begin : (op : Op) → IsBefore mix t r seat → machine_of t.env r.number r.batch r.call ≡ Some doing
-        → IsAdmittedCall r.call → IsBuiltFor t.env.config.kind r.call → doing_plan doing ≡ Some op
+        → IsAdmittedCall r.call → doing_plan doing ≡ Some op
         → CanPerform (Some r.call) t seat op
-    may_begin op is begins admitted built plan =
+    may_begin op is begins admitted plan =
         ready mix t record { seat = seat; number = r.number; local = is.local } (Some r.call) op is.pass
-        record { idle = is.idle; admitted = admitted; built = built; machine = doing; machine_is = begins-own is begins }
+        record { idle = is.idle; admitted = admitted; machine = doing; machine_is = begins-own is begins }
         (ap (λ (m : Option (Doing M)). plan_of (begun_with is.local m)) (begins-own is begins) ∙ plan)
 
     pub has_begun : (seat' : Seat (Unit {0}) (SeatView M)) (old : ℕ) → IsBefore mix t r seat

@@ -6,8 +6,6 @@ use Rattle.std.specs.Prelude.{Option, Some, None, is_some, ◌&&◌}
 use Rattle.std.specs.List.{AllByRecursion}
 use Rattle.std.proofs.lemmas.List.{append-nil}
 use Rattle.rht_words.specs.declared.env.Env.{Env}
-use Rattle.rht_words.specs.declared.config.Kind.{Kind}
-use Rattle.rht_words.specs.declared.config.Kind.TheVariants.{Single, Listed}
 use Rattle.rht_words.proofs.EachElement.{AllByRecursion-append, AllByRecursion-cut}
 use Rattle.rht_model.specs.declared.history.Call.{Call}
 use Rattle.rht_model.specs.declared.history.Call.TheVariants.{Bind, Find, All, Release, Rebind, Walk, Work, Tidy, Count}
@@ -19,8 +17,8 @@ use Rattle.rht_model.specs.Endings.{ended_with, replied}
 use Rattle.rht_callers.specs.declared.local.Local.{Local}
 use Rattle.rht_grace.specs.Batch.{BatchModel}
 use Rattle.rht_callers.specs.Batches.{IsBatchIn}
-use Rattle.rht_core.specs.Locals.{is_idle, machine_of, rebinding_of, tidying_of}
-use Rattle.rht_core.specs.Runs.{IsAdmittedCall, IsBuiltFor}
+use Rattle.rht_core.specs.Locals.{is_idle, machine_of, tidying_of}
+use Rattle.rht_core.specs.Runs.{IsAdmittedCall}
 use Rattle.rht_core.specs.Replies.{IsFindReply, IsWorkReply, IsRightlyAnswered, AreOwnersWith, ArePairsWith}
 use Rattle.rht_core.specs.Serving.{asks_for_work, AreWorks, AreBehind, AreTries}
 use Rattle.rht_core.proofs.Histories.ToldEntries.{tries-last, tries-split}
@@ -82,31 +80,24 @@ find_asks_none port _ right = absurd right
 
 -- ---- a machine for the command's own call
 
--- there is one for a rebind in a table of one owner each
-rebind-machine : (M : Type 0) (env : Env) (c port owner new : ℕ) (kind : Kind) → kind ≢ Listed
-    → is_some (rebinding_of {M = M} env c port owner new kind) ≡ true
-rebind-machine M env c port owner new Single single = refl
-rebind-machine M env c port owner new Listed single = absurd (single refl)
-
--- and one for a tidying of who has a batch
+-- there is one for a tidying of who has a batch
 tidying-machine : (M : Type 0) (env : Env) (batch : Option BatchModel) → IsBatchIn env batch
     → is_some (tidying_of {M = M} env batch) ≡ true
 tidying-machine M env None own = absurd own
 tidying-machine M env (Some batch) own = refl
 
 -- by cases of the call
-made-machine : (M : Type 0) (env : Env) (c : ℕ) (batch : Option BatchModel) (call : Call) → IsBuiltFor env.config.kind call
-    → IsBatchIn env batch
+made-machine : (M : Type 0) (env : Env) (c : ℕ) (batch : Option BatchModel) (call : Call) → IsBatchIn env batch
     → is_some (machine_of {M = M} env c batch call) ≡ true
-made-machine M env c batch (Bind port owner once) kind own = refl
-made-machine M env c batch (Find port) kind own = refl
-made-machine M env c batch (All port) kind own = refl
-made-machine M env c batch (Release port owner) kind own = refl
-made-machine M env c batch (Rebind port owner new) kind own = rebind-machine M env c port owner new env.config.kind kind
-made-machine M env c batch (Walk from limit) kind own = refl
-made-machine M env c batch Work kind own = refl
-made-machine M env c batch Tidy kind own = tidying-machine M env batch own
-made-machine M env c batch Count kind own = refl
+made-machine M env c batch (Bind port owner once) own = refl
+made-machine M env c batch (Find port) own = refl
+made-machine M env c batch (All port) own = refl
+made-machine M env c batch (Release port owner) own = refl
+made-machine M env c batch (Rebind port owner new) own = refl
+made-machine M env c batch (Walk from limit) own = refl
+made-machine M env c batch Work own = refl
+made-machine M env c batch Tidy own = tidying-machine M env batch own
+made-machine M env c batch Count own = refl
 
 -- where there is something it is some thing
 some-thing : {A : Type 0} (o : Option A) → is_some o ≡ true → (a : A) × (o ≡ Some a)
@@ -115,10 +106,10 @@ some-thing (Some a) some = (a, refl)
 
 -- so a pass in no call, which has its batch, can be given it
 pub MayBegin-made : {M : Type 0} (env : Env) (c : ℕ) (call : Call) (local : Local M) → is_idle local ≡ true → IsAdmittedCall call
-    → IsBuiltFor env.config.kind call → IsBatchIn env local.batch → MayBegin env c call local
-MayBegin-made {M} env c call local idle admitted kind own =
-    let machine = some-thing (machine_of {M = M} env c local.batch call) (made-machine M env c local.batch call kind own) in
-    record { idle = idle; admitted = admitted; built = kind; machine = machine.0; machine_is = machine.1 }
+    → IsBatchIn env local.batch → MayBegin env c call local
+MayBegin-made {M} env c call local idle admitted own =
+    let machine = some-thing (machine_of {M = M} env c local.batch call) (made-machine M env c local.batch call own) in
+    record { idle = idle; admitted = admitted; machine = machine.0; machine_is = machine.1 }
 
 -- ---- the work behind a call
 

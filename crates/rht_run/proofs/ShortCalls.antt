@@ -34,9 +34,9 @@ walk_bound-most env shape =
 module _ (M : Type 0) (mix : ℕ → ℕ → ℕ → ℕ) where
   -- what is so of each call of a run by its operations is so of the one that a caller is in; its book counts them
   in_progress : (So : Env → Call → List Did → Type 0)
-      → ((env : Env) (events : List Event) (c : ℕ) → IsAdmitted env.config.kind events
+      → ((env : Env) (events : List Event) (c : ℕ) → IsAdmitted events
       → EachCall M mix (So env) (traced_of mix env events) c)
-      → (env : Env) (events : List Event) (c : ℕ) (call : Call) → IsAdmitted env.config.kind events
+      → (env : Env) (events : List Event) (c : ℕ) (call : Call) → IsAdmitted events
       → let w : World M = run_of mix env events in
       (w.books c).call ≡ Some call → (steps : List Did) × (length steps ≡ (w.books c).steps) × So env call steps
   in_progress So law env events c call admitted asked =
@@ -47,14 +47,14 @@ module _ (M : Type 0) (mix : ℕ → ℕ → ℕ → ℕ) where
         (law env events c admitted).now call same,
       )
 
-  tidying_now : (env : Env) (events : List Event) (c : ℕ) → IsAdmitted env.config.kind events
+  tidying_now : (env : Env) (events : List Event) (c : ℕ) → IsAdmitted events
       → let w : World M = run_of mix env events in
       (w.books c).call ≡ Some Tidy → (w.books c).steps ≤ tidy_bound env.geometry
   tidying_now env events c admitted asked =
       let now = in_progress IsShortTidying (tidies_soon M mix) env events c Tidy admitted asked in
       subst (λ n. n ≤ tidy_bound env.geometry) now.1 (now.2 refl)
 
-  walk_now : (from : Option Cursor) (limit : ℕ) (env : Env) (events : List Event) (c : ℕ) → IsAdmitted env.config.kind events
+  walk_now : (from : Option Cursor) (limit : ℕ) (env : Env) (events : List Event) (c : ℕ) → IsAdmitted events
       → let w : World M = run_of mix env events in
       (w.books c).call ≡ Some (Walk from limit) → (w.books c).steps ≤ walk_bound env.geometry 262144
   walk_now from limit env events c admitted asked =
@@ -66,7 +66,7 @@ module _ (M : Type 0) (mix : ℕ → ℕ → ℕ → ℕ) where
 module _ {M : Type 0} (mix : ℕ → ℕ → ℕ → ℕ) (t : Table M) where
   -- so they are short in each run that a pass is in
   ends_within : (call : Call) (most : Env → ℕ)
-      → ((env : Env) (events : List Event) (c : ℕ) → IsAdmitted env.config.kind events
+      → ((env : Env) (events : List Event) (c : ℕ) → IsAdmitted events
       → let w : World M = run_of mix env events in (w.books c).call ≡ Some call → (w.books c).steps ≤ most env)
       → EndsWithin mix t call (most t.env)
   ends_within call most short steps before now is =

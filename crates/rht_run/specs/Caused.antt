@@ -25,7 +25,7 @@ pub record IsTracedCall {M : Type 0} (mix : ℕ → ℕ → ℕ → ℕ) (t : Ta
     (Fact : Env → List Event → ℕ → Past → Type 0)
     : Type 0 where
   pub events : List Event
-  pub admitted : IsAdmitted t.env.config.kind events
+  pub admitted : IsAdmitted events
   pub shows : Shows t.env (run_of mix t.env events) (held_at now.number (seen_by now))
   -- its place among all calls of the pass; which others stand behind the earlier ones is said by `HasCalled` and `HasServed`
   pub at : ℕ

@@ -22,6 +22,8 @@ pub mod Pieces
 pub mod Looking
 -- the way to a port as a piece, and the machines that go it
 pub mod Seeks
+-- the search for an owner as a piece
+pub mod Searches
 -- a walk that is driven
 pub mod Walking
 -- a resizing: its states that hold a piece

@@ -150,7 +150,7 @@ module _ {M : Type 0} where
   -- the pass
   pub record IsEnd (mix : ℕ → ℕ → ℕ → ℕ) (env : Env) (passes : List (Pass M)) (words : List ℕ) : Type 0 where
     pub events : List Event
-    pub admitted : IsAdmitted env.config.kind events
+    pub admitted : IsAdmitted events
     pub words_are : (run_of {M = M} mix env events).core.words ≡ words
     pub shows : (pass : Pass M) → Among pass passes
         → Shows env (run_of mix env events) (held_at pass.number (seen_by pass))

@@ -13,7 +13,7 @@ use Rattle.rht_callers.specs.declared.local.Local.{Local}
 use Rattle.rht_callers.specs.declared.local.Doing.{Doing}
 use Rattle.rht_callers.specs.Batches.{IsBatchIn}
 use Rattle.rht_core.specs.Locals.{fresh, is_idle, machine_of, begun_with}
-use Rattle.rht_core.specs.Runs.{World, View, view_of, new_book, book_begun, run_of, IsAdmittedCall, IsBuiltFor, IsAdmitted}
+use Rattle.rht_core.specs.Runs.{World, View, view_of, new_book, book_begun, run_of, IsAdmittedCall, IsAdmitted}
 use Rattle.rht_core.specs.Laws.{view_stepped}
 use Rattle.rht_run.specs.declared.seats.Held.{Held}
 use Rattle.rht_run.specs.declared.seats.SeatView.{SeatView}
@@ -56,7 +56,7 @@ pub record IsDrawer {M : Type 0} (env : Env) (enrolled drawer seat : ℕ) (view 
 -- views: it has one owner, the seat whose view has it. And one seat draws numbers.
 pub record Holds {M : Type 0} (mix : ℕ → ℕ → ℕ → ℕ) (env : Env) (s : State (Unit {0}) (SeatView M)) : Type 0 where
   pub events : List Event
-  pub admitted : IsAdmitted env.config.kind events
+  pub admitted : IsAdmitted events
   pub words : IsLaidOut s.words (run_of {M = M} mix env events).core.words
   pub counted :
       let core = (run_of {M = M} mix env events).core in
@@ -70,11 +70,10 @@ pub record Holds {M : Type 0} (mix : ℕ → ℕ → ℕ → ℕ) (env : Env) (s
   pub drawn : (seat : ℕ) (view : SeatView M) → get_elem? s.views seat ≡ some view → (n : ℕ) → view.drawn ≡ Some n
       → IsDrawer env (run_of {M = M} mix env events).core.enrolled drawer seat view n
 
--- a caller can be given this call: it is in none, the numbers of the call are in range, and a machine is built for it
+-- a caller can be given this call: it is in none, the numbers of the call are in range, and there is a machine for it
 pub record MayBegin {M : Type 0} (env : Env) (c : ℕ) (call : Call) (local : Local M) : Type 0 where
   pub idle : is_idle local ≡ true
   pub admitted : IsAdmittedCall call
-  pub built : IsBuiltFor env.config.kind call
   pub machine : Doing M
   pub machine_is : machine_of env c local.batch call ≡ Some machine
 
@@ -91,7 +90,7 @@ module _ {M : Type 0} where
   -- one run with the table's config has all that the view says of callers
   pub record IsInRun (mix : ℕ → ℕ → ℕ → ℕ) (view : SeatView M) : Type 0 where
     pub events : List Event
-    pub admitted : IsAdmitted view.env.config.kind events
+    pub admitted : IsAdmitted events
     pub shows : (held : Held M) → In held view.held → Shows view.env (run_of mix view.env events) held
 
   -- ---- a step of a call

@@ -13,6 +13,7 @@ use Rattle.rht_chain.specs.Probe.{ProbeModel, probe_new}
 use Rattle.rht_chain.specs.declared.probe.Probed.{Probed}
 use Rattle.rht_arena.specs.NewNode.{NewNodeModel}
 use Rattle.rht_release.specs.Seek.{SeekModel, seek_after, locating, bucket_or_early, located, port_at, found_or_future, probed}
+use Rattle.rht_release.specs.ListSearch.{search_new}
 use Rattle.rht_release.specs.Release.{closing, sought as release_sought_at}
 use Rattle.rht_release.specs.declared.release.ReleaseAt.{ReleaseAt}
 use Rattle.rht_release.specs.declared.release.ReleaseAt.TheVariants as releases
@@ -123,7 +124,7 @@ module _ {M : Type 0} where
   abbrev pub release_sought : Env → ℕ → ℕ → ℕ → Option FoundPort → Doing M × Option (Reply × Option ℕ)
   release_sought env caller port owner None = (release_at env caller port owner (closing Absent None), None)
   release_sought env caller port owner (Some found) =
-      (release_at env caller port owner (releases.Owner found found.node None), None)
+      (release_at env caller port owner (releases.Searching found (search_new found.node)), None)
 
   pub release_seeking : (env : Env) (caller port owner : ℕ) (next : SeekModel × Next (Option FoundPort))
       → ◌≡◌ {A = Doing M × Option (Reply × Option ℕ)} (release_at env caller port owner (release_sought_at next.0 next.1), None)
@@ -161,7 +162,7 @@ module _ {M : Type 0} where
   rebind_sought env caller port owner new node None =
       (rebind_at env caller port owner new (absent node), None)
   rebind_sought env caller port owner new node (Some found) =
-      (rebind_at env caller port owner new (rebinds.Owner node found), None)
+      (rebind_at env caller port owner new (rebinds.Searching node found (search_new found.node)), None)
 
   pub rebind_seeking : (env : Env) (caller port owner new node : ℕ) (next : SeekModel × Next (Option FoundPort))
       → ◌≡◌ {A = Doing M × Option (Reply × Option ℕ)} (rebind_at env caller port owner new (rebind_sought_at node next.0 next.1), None)

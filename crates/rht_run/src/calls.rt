@@ -2,7 +2,6 @@
 //! `cause` says what its own operations have to show for that.
 
 ghost use Rattle.std.specs.Prelude.{◌≡◌, ℕ, ◌+◌, ◌*◌, true, false, None, Some};
-ghost use Rattle.rht_words.specs.declared.config.Kind.TheVariants.{Single};
 ghost use Rattle.rht_model.specs.declared.history.Call.{Call as CallOf};
 ghost use Rattle.rht_model.specs.declared.history.Call.TheVariants.{Find, Bind, Release, Rebind, All, Walk, Work, Tidy, Count};
 ghost use Rattle.rht_core.specs.Locals.{is_idle};
@@ -169,10 +168,10 @@ impl<M: Mix> Table<M> {
         released(kick)
     }
 
-    /// Puts a new owner in the only one's place, in a table of one owner each: `Rebound`, `Absent`
+    /// Puts a new owner in the place of the first of the port's owners that is this one: `Rebound`, `Absent`
     /// where the port isn't bound to this owner, or `NoNode` where it found the bit of each node clear,
     /// each at some operation of its own. The node of the old owner goes into the pass's batch. The
-    /// kernel's counterpart is `rhashtable_replace_fast`.
+    /// kernel's counterpart is `rhashtable_replace_fast`, which follows no list.
     pub fn rebind<R: Wait>(
         &self,
         rt: &R,
@@ -183,7 +182,6 @@ impl<M: Mix> Table<M> {
     ) -> Reply
         requires pass { IsPassOf M.mix_of self.now pass.old }
         requires idle { is_idle pass.old.local ≡ true }
-        requires single { self.now.env.config.kind ≡ Single }
         ensures called { HasCalled M.mix_of self.now (Rebind port owner new) result pass.old pass.new }
         ensures reply { IsRebindReply result }
         ensures cause { IsCaused M.mix_of self.now (Rebind port owner new) result pass.old pass.new }

@@ -24,6 +24,7 @@ pub mod plays;
 mod rebinding;
 mod releasing;
 mod ride;
+mod searches;
 mod seats;
 mod seeking;
 mod seeks;

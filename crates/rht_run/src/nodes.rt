@@ -5,7 +5,7 @@ ghost use Rattle.rht_words.specs.Ports.{word_of};
 ghost use Rattle.rht_arena.specs.NewNode.{new_node_new, new_node_plan, new_node_after, new_node_after_at, node_taken};
 ghost use Rattle.rht_arena.specs.declared.new_node.NewNodeAt.TheVariants.{Taking};
 ghost use Rattle.rht_core.specs.Locals.{machine_of};
-ghost use Rattle.rht_core.specs.Runs.{IsAdmittedCall, IsBuiltFor};
+ghost use Rattle.rht_core.specs.Runs.{IsAdmittedCall};
 ghost use Rattle.rht_run.specs.Layout.{physical_place};
 ghost use Rattle.rht_run.specs.Rides.{IsBefore, IsRiding, Stepped, piece_next};
 ghost use Rattle.rht_run.specs.Pieces.{new_node_told, node_then};
@@ -36,7 +36,6 @@ impl<M: Mix> Table<M> {
         requires before { IsBefore M.mix_of self.now K.riding seat.old }
         requires begins { machine_of self.now.env K.riding.number K.riding.batch K.riding.call ≡ Some (F.holding frame.now (new_node_new starts.geometry (word_of port) owner)) }
         requires admitted { IsAdmittedCall K.riding.call }
-        requires built { IsBuiltFor self.now.env.config.kind K.riding.call }
         ensures { IfSome result (λ taken. Stepped M.mix_of self.now K.riding (F.behind frame.now taken) seat.new) }
     {
         let new = NewNode::new(starts.geometry, word_of(port), owner);

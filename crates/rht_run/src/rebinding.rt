@@ -1,28 +1,29 @@
 //! The rebind of a port, in straight code.
 
 ghost use Rattle.std.specs.Prelude.{◌≡◌};
-ghost use Rattle.rht_words.specs.declared.config.Kind.TheVariants.{Single};
 ghost use Rattle.rht_model.specs.declared.history.Call.TheVariants.{Rebind as RebindCall};
 ghost use Rattle.rht_release.specs.Rebind.{plan_at, absent, replacing};
 ghost use Rattle.rht_run.specs.Layout.{physical_place};
 ghost use Rattle.rht_run.specs.Rides.{IsBefore, IsRiding, HasEndedWith, Stepped, driven};
 ghost use Rattle.rht_run.specs.Seeks.{rebind_at, nested_seek};
-ghost use Rattle.rht_release.specs.declared.rebind.RebindAt.TheVariants.{Seeking, Closing};
+ghost use Rattle.rht_release.specs.declared.rebind.RebindAt.TheVariants.{Seeking, LinkBehind, ChainLink, Closing};
 ghost use Rattle.rht_release.specs.declared.rebind.RebindEnd.TheVariants.{Rebound};
 
 use crate::layout::section;
 use crate::pieces::Whole;
 use crate::ride::{Ride, never};
+use crate::searches::RebindSearching;
 use crate::seats::SeatView;
 use crate::seeking::{Sought, nested_seek};
 use crate::seeks::{RebindFilling, RebindSeeking};
+use crate::starts::Starts;
 use crate::table::Table;
 use atomic_table::Seat;
 use rht_model::Reply;
 use rht_policy::Mix;
-use rht_release::rebind::{absent, giving, owner_compared};
-use rht_release::{FoundPort, Rebind, RebindAt, RebindEnd, SeekAt};
-use rht_words::{Env, Port, link_of, owner_of, table_of};
+use rht_release::rebind::{absent, giving, unlocking};
+use rht_release::{FoundPort, ListPlace, Rebind, RebindAt, RebindEnd, SeekAt};
+use rht_words::{Env, Port, link_of, table_of};
 use std::sync::Wait;
 
 impl<M: Mix> Table<M> {
@@ -41,7 +42,6 @@ impl<M: Mix> Table<M> {
         requires before { IsBefore M.mix_of self.now K.riding seat.old }
         requires number { K.riding.number ≡ number }
         requires call { K.riding.call ≡ RebindCall port owner new }
-        requires single { self.now.env.config.kind ≡ Single }
         ensures { HasEndedWith M.mix_of self.now K.riding result.0 result.1 seat.new }
     {
         let env = self.env;
@@ -93,26 +93,130 @@ impl<M: Mix> Table<M> {
                 );
             }
         };
-        let at = RebindAt::Owner { node, found };
-        let place = starts.owner(found.node);
-        let first = owner_of(self.rebinding_at::<K>(
-            seat, env, number, port, owner, new, at, place,
-        ));
-        let at = owner_compared(node, found, first == owner);
-        let RebindAt::ChainLink { .. } = at else {
+        let frame = RebindSearching {
+            caller: number,
+            port,
+            new,
+            node,
+            found,
+        };
+        let first = found.node;
+        let Some(place) = self.search::<K, RebindSearching>(seat, &frame, starts, owner, first)
+        else {
+            never(rt);
+            unreachable!()
+        };
+        let Some(ListPlace { node: old, before }) = place else {
+            let at = unlocking(found, RebindEnd::Absent { node });
             self.rebinding::<K>(seat, env, number, port, owner, new, at);
             return self.give_up_rebind::<K>(seat, env, number, port, owner, new, node);
         };
+        self.put_in::<K>(
+            seat, env, starts, number, port, owner, new, node, found, old, before,
+        )
+    }
+
+    /// Puts the new node in the place of this one of the port's list, where the node before it is this one.
+    #[inline(always)]
+    fn put_in<K: Ride>(
+        &self,
+        seat: &mut Seat<(), SeatView<M>>,
+        env: Env,
+        starts: Starts,
+        number: u32,
+        port: Port,
+        owner: u32,
+        new: u32,
+        node: u32,
+        found: FoundPort,
+        old: u32,
+        before: Option<u32>,
+    ) -> (Reply, Option<u32>)
+        requires starts { starts.geometry ≡ env.geometry }
+        requires riding { IsRiding M.mix_of self.now K.riding (rebind_at env number port owner new (LinkBehind node found old before)) seat.old }
+        ensures { HasEndedWith M.mix_of self.now K.riding result.0 result.1 seat.new }
+    {
+        let at = RebindAt::LinkBehind {
+            node,
+            found,
+            old,
+            before,
+        };
+        let place = starts.list_link(old);
+        let link = self.rebinding_at::<K>(seat, env, number, port, owner, new, at, place);
+        let at = RebindAt::OwnListLink {
+            node,
+            found,
+            old,
+            before,
+            link,
+        };
+        let place = starts.list_link(node);
+        self.rebinding_at::<K>(seat, env, number, port, owner, new, at, place);
+        let Some(before) = before else {
+            return self.replace_first::<K>(
+                seat, env, starts, number, port, owner, new, node, found,
+            );
+        };
+        let at = RebindAt::Swapping {
+            node,
+            found,
+            old,
+            before,
+        };
+        let place = starts.list_link(before);
+        self.rebinding_at::<K>(seat, env, number, port, owner, new, at, place);
+        let at = unlocking(found, RebindEnd::Rebound { removed: old });
+        self.rebinding::<K>(seat, env, number, port, owner, new, at);
+        self.close_rebound::<K>(seat, env, number, port, owner, new, old)
+    }
+
+    /// Puts the new node in the place of the first one of the port's list, which is in the chain.
+    #[inline(always)]
+    fn replace_first<K: Ride>(
+        &self,
+        seat: &mut Seat<(), SeatView<M>>,
+        env: Env,
+        starts: Starts,
+        number: u32,
+        port: Port,
+        owner: u32,
+        new: u32,
+        node: u32,
+        found: FoundPort,
+    ) -> (Reply, Option<u32>)
+        requires starts { starts.geometry ≡ env.geometry }
+        requires riding { IsRiding M.mix_of self.now K.riding (rebind_at env number port owner new (ChainLink node found)) seat.old }
+        ensures { HasEndedWith M.mix_of self.now K.riding result.0 result.1 seat.new }
+    {
+        let at = RebindAt::ChainLink { node, found };
         let place = starts.chain_link(found.node);
         let link = self.rebinding_at::<K>(seat, env, number, port, owner, new, at, place);
         let at = RebindAt::Link { node, found, link };
         let place = starts.chain_link(node);
         self.rebinding_at::<K>(seat, env, number, port, owner, new, at, place);
         self.replacing::<K>(seat, env, number, port, owner, new, node, found);
-        let removed = found.node;
+        self.close_rebound::<K>(seat, env, number, port, owner, new, found.node)
+    }
+
+    /// Closes the read section, with which the rebind ends: this node was taken out.
+    #[inline(always)]
+    fn close_rebound<K: Ride>(
+        &self,
+        seat: &mut Seat<(), SeatView<M>>,
+        env: Env,
+        number: u32,
+        port: Port,
+        owner: u32,
+        new: u32,
+        removed: u32,
+    ) -> (Reply, Option<u32>)
+        requires { IsRiding M.mix_of self.now K.riding (rebind_at env number port owner new (Closing (Rebound removed))) seat.old }
+        ensures { HasEndedWith M.mix_of self.now K.riding result.0 result.1 seat.new }
+    {
         let end = RebindEnd::Rebound { removed };
         let at = RebindAt::Closing { end };
-        self.rebinding_at::<K>(seat, env, number, port, owner, new, at, section);
+        self.rebinding_at::<K>(seat, env, number, port, owner, new, at, section(number));
         (Reply::Rebound, Some(removed))
     }
 

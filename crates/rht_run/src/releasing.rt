@@ -13,6 +13,7 @@ ghost use Rattle.rht_run.specs.Seeks.{release_at, nested_seek};
 use crate::layout::section;
 use crate::pieces::Whole;
 use crate::ride::{Ride, never};
+use crate::searches::ReleaseSearching;
 use crate::seats::SeatView;
 use crate::seeking::{Sought, nested_seek};
 use crate::seeks::ReleaseSeeking;
@@ -22,8 +23,8 @@ use atomic_table::Seat;
 use rht_model::Reply;
 use rht_policy::Mix;
 use rht_release::release::{closing, kicks, unlocking};
-use rht_release::{FoundPort, Release, ReleaseAt, SeekAt};
-use rht_words::{Env, Port, link_of, node_of, owner_of, table_of};
+use rht_release::{FoundPort, ListPlace, Release, ReleaseAt, SeekAt};
+use rht_words::{Env, Port, link_of, node_of, table_of};
 use std::sync::Wait;
 
 impl<M: Mix> Table<M> {
@@ -80,34 +81,23 @@ impl<M: Mix> Table<M> {
                 );
             }
         };
-        let mut node = found.node;
-        let mut before = None;
-        for _ in 0..u64::MAX {
-            let at = ReleaseAt::Owner {
-                found,
-                node,
-                before,
-            };
-            let place = starts.owner(node);
-            let other = owner_of(self.releasing_at::<K>(seat, env, number, port, owner, at, place));
-            if other == owner {
-                return self.take_out::<K>(
-                    seat, env, starts, number, port, owner, found, node, before,
-                );
-            }
-            let at = ReleaseAt::ListLink { found, node };
-            let place = starts.list_link(node);
-            let link = self.releasing_at::<K>(seat, env, number, port, owner, at, place);
-            let Some(next) = node_of(env.geometry.nodes, link) else {
-                let at = unlocking(found, None);
-                self.releasing::<K>(seat, env, number, port, owner, at);
-                return self.close_release::<K>(seat, env, number, port, owner, None, None);
-            };
-            before = Some(node);
-            node = next;
-        }
-        never(rt);
-        unreachable!()
+        let frame = ReleaseSearching {
+            caller: number,
+            port,
+            found,
+        };
+        let first = found.node;
+        let Some(place) = self.search::<K, ReleaseSearching>(seat, &frame, starts, owner, first)
+        else {
+            never(rt);
+            unreachable!()
+        };
+        let Some(ListPlace { node, before }) = place else {
+            let at = unlocking(found, None);
+            self.releasing::<K>(seat, env, number, port, owner, at);
+            return self.close_release::<K>(seat, env, number, port, owner, None, None);
+        };
+        self.take_out::<K>(seat, env, starts, number, port, owner, found, node, before)
     }
 
     /// Takes this node out of the port's list, where the node before it is this one.

@@ -9,7 +9,7 @@ ghost use Rattle.std.specs.Prelude.{◌≡◌, Some};
 ghost use Rattle.rht_model.specs.Rooms.{emptied};
 ghost use Rattle.rht_callers.specs.Batches.{CanPut};
 ghost use Rattle.rht_core.specs.Locals.{machine_of, doing_after};
-ghost use Rattle.rht_core.specs.Runs.{IsAdmittedCall, IsBuiltFor};
+ghost use Rattle.rht_core.specs.Runs.{IsAdmittedCall};
 ghost use Rattle.rht_run.specs.Layout.{physical_place};
 ghost use Rattle.rht_run.specs.Rides.{Riding, any_riding, IsBefore, IsRiding, Stepped, HasCounted, piece_next, driven, batch_with};
 
@@ -52,7 +52,6 @@ impl<M: Mix> Table<M> {
         requires before { IsBefore M.mix_of self.now K.riding seat.old }
         requires begins { machine_of self.now.env K.riding.number K.riding.batch K.riding.call ≡ Some (F.holding frame.now piece.now) }
         requires admitted { IsAdmittedCall K.riding.call }
-        requires built { IsBuiltFor self.now.env.config.kind K.riding.call }
         requires place { at ≡ physical_place (P.plan_of piece.now) }
         ensures doing { Stepped M.mix_of self.now K.riding (driven M.mix_of (F.holding frame.now piece.now) result) seat.new }
         ensures piece { Stepped M.mix_of self.now K.riding (piece_next (λ p. F.holding frame.now p) (λ a. F.behind frame.now a) (P.after_of piece.now result)) seat.new }

@@ -5,7 +5,6 @@ ghost use Rattle.rht_model.specs.declared.history.Call.TheVariants.{Find};
 ghost use Rattle.rht_model.specs.declared.history.Reply.TheVariants.{Moved};
 ghost use Rattle.rht_core.specs.Locals.{is_idle};
 ghost use Rattle.rht_core.specs.Replies.{IsReplyTo};
-ghost use Rattle.rht_core.specs.Runs.{IsBuiltFor};
 ghost use Rattle.rht_core.specs.Serving.{asks_for_work};
 ghost use Rattle.rht_run.specs.Rule.{MayBegin};
 ghost use Rattle.rht_run.specs.Passes.{IsPassOf, HasCalled};
@@ -27,11 +26,10 @@ impl<M: Mix> Table<M> {
     /// The answer is the command's reply. What the tidying and `work` were answered, and a first `NoNode`,
     /// stand among the pass's finished calls alone. Each reply comes when it does of the call itself, which
     /// may wait; so may `work`. The owners of a `Listed` stand in `Pass::owners`, and the pairs of a
-    /// `Walked` in `Pass::pairs`. It takes no memory. A rebind is for a table of one owner each.
+    /// `Walked` in `Pass::pairs`. It takes no memory.
     pub fn serve<R: Wait>(&self, rt: &R, pass: &mut Pass<M>, call: Call, auto: bool) -> Reply
         requires pass { IsPassOf M.mix_of self.now pass.old }
         requires idle { is_idle pass.old.local ≡ true }
-        requires kind { IsBuiltFor self.now.env.config.kind call }
         ensures served { HasServed M.mix_of self.now auto call result pass.old pass.new }
         ensures reply { IsReplyTo call result }
         ensures cause { IsCaused M.mix_of self.now call result pass.old pass.new }
@@ -53,7 +51,6 @@ impl<M: Mix> Table<M> {
     fn tried<R: Wait>(&self, rt: &R, pass: &mut Pass<M>, call: Call) -> Reply
         requires pass { IsPassOf M.mix_of self.now pass.old }
         requires idle { is_idle pass.old.local ≡ true }
-        requires kind { IsBuiltFor self.now.env.config.kind call }
         requires other { (port : ℕ) → call ≢ Find port }
         ensures { HasTried M.mix_of self.now call result pass.old pass.new }
     {
@@ -61,13 +58,26 @@ impl<M: Mix> Table<M> {
         match self.answer(rt, pass, call) {
             Reply::NoNode => {
                 self.tidy(pass);
-                self.answer(rt, pass, again)
+                self.answer_again(rt, pass, again)
             }
             reply => reply,
         }
     }
 
+    /// Makes a call other than a look-up, where it is made for the second time.
+    #[cold]
+    #[inline(never)]
+    fn answer_again<R: Wait>(&self, rt: &R, pass: &mut Pass<M>, call: Call) -> Reply
+        requires pass { IsPassOf M.mix_of self.now pass.old }
+        requires may { MayBegin self.now.env pass.old.number call pass.old.local }
+        requires other { (port : ℕ) → call ≢ Find port }
+        ensures { HasCalled M.mix_of self.now call result pass.old pass.new }
+    {
+        self.answer(rt, pass, call)
+    }
+
     /// Makes a call other than a look-up.
+    #[inline(always)]
     fn answer<R: Wait>(&self, rt: &R, pass: &mut Pass<M>, call: Call) -> Reply
         requires pass { IsPassOf M.mix_of self.now pass.old }
         requires may { MayBegin self.now.env pass.old.number call pass.old.local }

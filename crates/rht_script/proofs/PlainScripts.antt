@@ -31,7 +31,7 @@ use Rattle.rht_script.specs.declared.options.Options.{Options}
 use Rattle.rht_script.specs.Spelling.{◌>>=◌, lines_of, is_skipped, number_of}
 use Rattle.rht_script.specs.Grammar.{most_lines, most_in_line, words_at, lines_from, said_from}
 use Rattle.rht_script.specs.TableLines.{no_options, kind_of, with_setting, setting_of, options_from, configured, sizes_agree, has_room, rounded_min, config_of, table_of}
-use Rattle.rht_script.specs.CommandLines.{owner_limits, worker_limits, bind_of, find_of, all_of, release_of, of_single, rebind_of, bare_of, call_of, command_of}
+use Rattle.rht_script.specs.CommandLines.{owner_limits, worker_limits, bind_of, find_of, all_of, release_of, rebind_of, bare_of, call_of, command_of}
 use Rattle.rht_script.specs.PortWords.{form_limits, IsForm}
 use Rattle.rht_script.specs.ScheduleLines.{event_limits, events_of}
 use Rattle.rht_script.specs.ScriptLines.{line_of, commands_among, schedule_among}
@@ -70,7 +70,7 @@ module _ (table : TableLine) where
       let port_is = port_of_word-text table.form port sayable.0 in
       let owner_is = number_of-decimal owner (omega (arith, sayable.1)) owner_limits sayable.1 in
       let new_is = number_of-decimal new (omega (arith, sayable.2)) owner_limits sayable.2 in
-      rw (port_is, owner_is, new_is) (ap (λ (k : Kind). of_single k (Rebind port owner new)) sayable.3)
+      rw (port_is, owner_is, new_is) refl
   call_of-plain (Walk from limit) sayable = ap (λ (c : Call). Ok c) (sym sayable)
   call_of-plain Work sayable = refl
   call_of-plain Tidy sayable = refl

@@ -7,8 +7,6 @@ use Rattle.std.specs.List.{AllByRecursion}
 use Rattle.std.proofs.lemmas.Bool.{cases_Bool, and_parts, leb-true, ltb-false, eqb-true}
 use Rattle.std.proofs.lemmas.Result.{IfOk-at_ok}
 use Rattle.rht_words.specs.declared.config.Config.{Config}
-use Rattle.rht_words.specs.declared.config.Kind.{Kind}
-use Rattle.rht_words.specs.declared.config.Kind.TheVariants.{Single, Listed}
 use Rattle.rht_words.specs.declared.limits.Limits.{Limits}
 use Rattle.rht_words.specs.Limits.{IsWithinLimits}
 use Rattle.rht_model.specs.declared.history.Call.{Call}
@@ -23,7 +21,7 @@ use Rattle.rht_script.specs.declared.cause.Cause.{Cause}
 use Rattle.rht_script.specs.declared.cause.Cause.TheVariants.{BadNumber, OutOfRange, UnknownWord, TooManyLines, LineTooLong}
 use Rattle.rht_script.specs.Grammar.{most_bytes, most_lines, most_in_line, at_line, words_at, lines_from, Said, said_from, reading_of}
 use Rattle.rht_script.specs.TableLines.{table_of}
-use Rattle.rht_script.specs.CommandLines.{owner_limits, worker_limits, number_first, port_first, end_of, bind_of, find_of, all_of, release_of, of_single, rebind_of, bare_of, whole_walk, call_of, begins_schedule, command_of}
+use Rattle.rht_script.specs.CommandLines.{owner_limits, worker_limits, number_first, port_first, end_of, bind_of, find_of, all_of, release_of, rebind_of, bare_of, whole_walk, call_of, begins_schedule, command_of}
 use Rattle.rht_script.specs.ScheduleLines.{event_limits, events_of}
 use Rattle.rht_script.specs.ScriptLines.{scheduled, line_of, commands_among, schedule_among}
 use Rattle.rht_script.specs.PortWords.{net_and_number, IsPortIn, net_limits, port_number_limits, cut_of, port_in, port_of_parts, port_of_word}
@@ -139,20 +137,13 @@ module _ (Q : Call → Type 0) where
       IfOk-then (λ (read : ℕ × List (List ℕ)). IsOwner read.0) Q (number_first owner_limits words) next
       (first_within owner_limits words) holds
 
--- what is for tables of one owner each holds where it is in one
-of_single_holds : (Q : Call → Type 0) (kind : Kind) (call : Call) → (kind ≡ Single → Q call)
-    → IfOk (of_single kind call) Q
-of_single_holds Q Single call holds = holds refl
-of_single_holds Q Listed call holds = tt
-
 -- It holds of each call that a line can ask below this table line, whatever the port and the owners.
 pub record HoldsOfCalls (table : TableLine) (Q : Call → Type 0) : Type 0 where
   pub bind : (port owner : ℕ) → IsPortIn table.form port → IsOwner owner → Q (Bind port owner false)
   pub find : (port : ℕ) → IsPortIn table.form port → Q (Find port)
   pub list : (port : ℕ) → IsPortIn table.form port → Q (All port)
   pub release : (port owner : ℕ) → IsPortIn table.form port → IsOwner owner → Q (Release port owner)
-  pub rebind : (port owner new : ℕ) → IsPortIn table.form port → IsOwner owner → IsOwner new → table.config.kind ≡ Single
-      → Q (Rebind port owner new)
+  pub rebind : (port owner new : ℕ) → IsPortIn table.form port → IsOwner owner → IsOwner new → Q (Rebind port owner new)
   pub walk : Q (whole_walk table.config)
   pub work : Q Work
   pub tidy : Q Tidy
@@ -185,15 +176,13 @@ module _ (table : TableLine) (Q : Call → Type 0) (holds : HoldsOfCalls table Q
       behind_owner Q port.1 _ (λ owner is_owner.
       IfOk-after Q (end_of owner.1) _ (λ end. holds.release port.0 owner.0 is_port is_owner)))
 
-  rebind_holds : (words : List (List ℕ)) → IfOk (rebind_of table.form table.config.kind words) Q
+  rebind_holds : (words : List (List ℕ)) → IfOk (rebind_of table.form words) Q
   unfolding rebind_of
   rebind_holds words =
       behind_port Q table.form words _ (λ port is_port.
       behind_owner Q port.1 _ (λ owner is_owner.
       behind_owner Q owner.1 _ (λ new is_new.
-      IfOk-after Q (end_of new.1) _ (λ end.
-      of_single_holds Q table.config.kind (Rebind port.0 owner.0 new.0)
-      (holds.rebind port.0 owner.0 new.0 is_port is_owner is_new)))))
+      IfOk-after Q (end_of new.1) _ (λ end. holds.rebind port.0 owner.0 new.0 is_port is_owner is_new))))
 
   bare_holds : (call : Call) → Q call → (words : List (List ℕ)) → IfOk (bare_of call words) Q
   unfolding bare_of

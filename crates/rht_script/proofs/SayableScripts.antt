@@ -35,7 +35,7 @@ use Rattle.rht_script.specs.Grammar.{most_bytes, coded, at_line, words_at, Said,
 use Rattle.rht_script.specs.Allowed.{IsAllowed, AreAllowed}
 use Rattle.rht_script.specs.Plain.{IsSayableCall, IsSayableCommand, IsSayableSched, IsSayable}
 use Rattle.rht_script.specs.Reading.{said_by}
-use Rattle.rht_script.specs.Sound.{is_single, is_sound_call, has_sound_numbers, is_sound_command, is_sound_line, IsSoundScript}
+use Rattle.rht_script.specs.Sound.{is_sound_call, has_sound_numbers, is_sound_command, is_sound_line, IsSoundScript}
 use Rattle.rht_script.specs.Laws.{PlainPorts, SaysSayable}
 use Rattle.rht_script.proofs.ConfigLemmas.{IsSettled-configured}
 use Rattle.rht_script.proofs.ReadLines.{IfOk-then, IfOk-after, IfOk-cond, IfOk-at_line, number_within, IsWithinLimits-test, call_holds, command_holds, AreEvents, HoldsOfSchedule, reading_holds}
@@ -217,8 +217,7 @@ command_sayable table =
       find = λ port is_port. is_port;
       list = λ port is_port. is_port;
       release = λ port owner is_port is_owner. (is_port, owner_is owner is_owner);
-      rebind = λ port owner new is_port is_owner is_new single.
-          (is_port, owner_is owner is_owner, owner_is new is_new, single);
+      rebind = λ port owner new is_port is_owner is_new. (is_port, owner_is owner is_owner, owner_is new is_new);
       walk = refl;
       work = tt;
       tidy = tt;
@@ -288,7 +287,7 @@ is_sound_call-sayable form config (Bind port owner once) sayable = ap not sayabl
 is_sound_call-sayable form config (Find port) sayable = refl
 is_sound_call-sayable form config (ListAll port) sayable = refl
 is_sound_call-sayable form config (Release port owner) sayable = refl
-is_sound_call-sayable form config (Rebind port owner new) sayable = ap is_single sayable.3
+is_sound_call-sayable form config (Rebind port owner new) sayable = refl
 is_sound_call-sayable form config (Walk from limit) sayable =
     ap (is_sound_call config) sayable ∙ whole_walk-sound config
 is_sound_call-sayable form config Work sayable = refl

@@ -15,7 +15,7 @@ use Rattle.rht_script.specs.declared.script.Sched.{Sched}
 use Rattle.rht_script.specs.declared.script.Sched.TheVariants.{Step, Skip, Finish}
 use Rattle.rht_script.specs.declared.script.TableLine.{TableLine}
 use Rattle.rht_script.specs.declared.cause.Cause.{Cause}
-use Rattle.rht_script.specs.declared.cause.Cause.TheVariants.{NoTableLine, UnknownWord, BadNumber, OutOfRange, LineTooLong, WrongKind, OptionsDisagree}
+use Rattle.rht_script.specs.declared.cause.Cause.TheVariants.{NoTableLine, UnknownWord, BadNumber, OutOfRange, LineTooLong, OptionsDisagree}
 use Rattle.rht_script.specs.Spelling.{lines_of, words_of, number_of}
 use Rattle.rht_script.specs.TableLines.{setting_of, configured, config_of, table_of}
 use Rattle.rht_script.specs.PortWords.{one_number, net_and_number, port_of_word}
@@ -276,12 +276,6 @@ sizes_disagree : HaveFault 1 OptionsDisagree (
 unfolding whole_reading
 sizes_disagree = refl
 
--- a rebind in a table of lists
-wrong_kind : HaveFault 2 WrongKind (
-    codes "table listed\n1 rebind 80 1 2\n" ∷ codes "table listed max 8\n1 rebind 0 0 0" ∷ [])
-unfolding whole_reading
-wrong_kind = refl
-
 -- the first table has more buckets than its pages: 512, 512 and 131,072
 no_room : HaveFault 1 OptionsDisagree (
     codes "table single pages 4 hint 300\n" ∷ codes "table single min 257 pages 4\n"
@@ -381,26 +375,6 @@ number_out_of_range_before_options : HaveFault 1 OutOfRange (
 unfolding whole_reading
 number_out_of_range_before_options = refl
 
--- that the table is of the wrong kind comes last too, behind an unknown, a missing and an extra word
-unknown_word_before_kind : HaveFault 2 UnknownWord (
-    codes "table listed\n1 rebind\n" ∷ codes "table listed\n1 rebind 80 1\n"
-    ∷ codes "table listed\n1 rebind 80 1 2 3\n" ∷ [])
-unfolding whole_reading
-unknown_word_before_kind = refl
-
--- behind a bad number
-bad_number_before_kind : HaveFault 2 BadNumber (
-    codes "table listed\nx rebind 80 1 2\n" ∷ codes "table listed\n1 rebind x 1 2\n"
-    ∷ codes "table listed\n1 rebind 80 1 x\n" ∷ [])
-unfolding whole_reading
-bad_number_before_kind = refl
-
--- and behind a number out of range
-number_out_of_range_before_kind : HaveFault 2 OutOfRange (
-    codes "table listed\n2 rebind 80 1 2\n" ∷ codes "table listed\n1 rebind 80 1 4294967296\n" ∷ [])
-unfolding whole_reading
-number_out_of_range_before_kind = refl
-
 -- of two lines the upper one comes first, whatever is wrong with the other: a table line with an unknown word
 table_line_before_commands : HaveFault 1 UnknownWord (
     codes "table\n1 find x\n" ∷ codes "table double\n2 find 80\n" ∷ [])
@@ -431,17 +405,6 @@ number_out_of_range_before_later_lines : HaveFault 2 OutOfRange (below_table (
 unfolding whole_reading
 number_out_of_range_before_later_lines = refl
 
--- with a rebind in a table of lists, and above one
-wrong_kind_before_later_lines : HaveFault 2 WrongKind (
-    codes "table listed\n1 rebind 80 1 2\n1 lookup\n" ∷ [])
-unfolding whole_reading
-wrong_kind_before_later_lines = refl
-
-unknown_word_before_wrong_kind : HaveFault 2 UnknownWord (
-    codes "table listed\n1 lookup\n1 rebind 80 1 2\n" ∷ [])
-unfolding whole_reading
-unknown_word_before_wrong_kind = refl
-
 -- so it is with a line that is too long, above or below
 too_long_before_later_lines : HaveFault 2 LineTooLong
     (below_table (too_long (codes "1 find 80\n1 lookup\n" ∷ [])))
@@ -464,10 +427,10 @@ verbs : Says (codes
 unfolding whole_reading
 verbs = refl
 
--- a table of lists, in which everything but a rebind can be asked
-lists : Says (codes "table listed nodes 16\n1 bind 80 1\n1 all 80\n1 walk\n1 count\n1 release 80 1\n")
+-- a table of lists
+lists : Says (codes "table listed nodes 16\n1 bind 80 1\n1 all 80\n1 rebind 80 1 2\n1 walk\n1 count\n1 release 80 2\n")
     (record plain_config { kind = Listed; nodes = 16 })
-    ((1, Bind 80 1 false) ∷ (1, All 80) ∷ (1, Walk None 16) ∷ (1, Count) ∷ (1, Release 80 1) ∷ [])
+    ((1, Bind 80 1 false) ∷ (1, All 80) ∷ (1, Rebind 80 1 2) ∷ (1, Walk None 16) ∷ (1, Count) ∷ (1, Release 80 2) ∷ [])
 unfolding whole_reading
 lists = refl
 

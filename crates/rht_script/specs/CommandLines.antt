@@ -1,14 +1,12 @@
 -- What the words of a command line stand for: a worker, and what that asks. Words are read from left to right.
 use Rattle.std.specs.Prelude.{ℕ, Bool, false, ◌||◌, if◌then◌else◌, None, Result, Ok, Err, List, [], ◌∷◌, codes}
 use Rattle.rht_words.specs.declared.config.Config.{Config}
-use Rattle.rht_words.specs.declared.config.Kind.{Kind}
-use Rattle.rht_words.specs.declared.config.Kind.TheVariants.{Single, Listed}
 use Rattle.rht_words.specs.declared.limits.Limits.{Limits}
 use Rattle.rht_model.specs.declared.history.Call.{Call}
 use Rattle.rht_model.specs.declared.history.Call.TheVariants.{Bind, Find, All, Release, Rebind, Walk, Work, Tidy, Count}
 use Rattle.rht_script.specs.declared.script.TableLine.{TableLine}
 use Rattle.rht_script.specs.declared.cause.Cause.{Cause}
-use Rattle.rht_script.specs.declared.cause.Cause.TheVariants.{UnknownWord, WrongKind}
+use Rattle.rht_script.specs.declared.cause.Cause.TheVariants.{UnknownWord}
 use Rattle.rht_script.specs.Spelling.{◌>>=◌, is_word, number_of}
 use Rattle.rht_script.specs.PortWords.{port_of_word}
 
@@ -62,19 +60,13 @@ release_of form words = do
   end ← end_of owner.1
   Ok (Release port.0 owner.0)
 
--- a call that is for tables of one owner each alone, in a table of this kind
-abbrev pub of_single : Kind → Call → Result Call Cause
-of_single Single call = Ok call
-of_single Listed call = Err WrongKind
-
--- that the table is of the wrong kind is asked of the whole line, last
-unfoldable pub rebind_of : ℕ → Kind → List (List ℕ) → Result Call Cause
-rebind_of form kind words = do
+unfoldable pub rebind_of : ℕ → List (List ℕ) → Result Call Cause
+rebind_of form words = do
   port ← port_first form words
   owner ← number_first owner_limits port.1
   new ← number_first owner_limits owner.1
   end ← end_of new.1
-  of_single kind (Rebind port.0 owner.0 new.0)
+  Ok (Rebind port.0 owner.0 new.0)
 
 -- a call that its verb says alone: no word stands behind it
 unfoldable pub bare_of : Call → List (List ℕ) → Result Call Cause
@@ -94,7 +86,7 @@ call_of table (verb ∷ words) =
     else if is_word verb (codes "find") then find_of table.form words
     else if is_word verb (codes "all") then all_of table.form words
     else if is_word verb (codes "release") then release_of table.form words
-    else if is_word verb (codes "rebind") then rebind_of table.form table.config.kind words
+    else if is_word verb (codes "rebind") then rebind_of table.form words
     else if is_word verb (codes "walk") then bare_of (whole_walk table.config) words
     else if is_word verb (codes "work") then bare_of Work words
     else if is_word verb (codes "tidy") then bare_of Tidy words

@@ -9,7 +9,7 @@ use Rattle.rht_script.specs.declared.script.ScriptLine.{ScriptLine}
 use Rattle.rht_script.specs.declared.script.ScriptFault.{ScriptFault}
 use Rattle.rht_script.specs.declared.script.TableLine.{TableLine}
 use Rattle.rht_script.specs.declared.cause.Cause.{Cause}
-use Rattle.rht_script.specs.declared.cause.Cause.TheVariants.{NoTableLine, UnknownWord, BadNumber, OutOfRange, TooManyLines, LineTooLong, WrongKind, OptionsDisagree, ScriptTooLong}
+use Rattle.rht_script.specs.declared.cause.Cause.TheVariants.{NoTableLine, UnknownWord, BadNumber, OutOfRange, TooManyLines, LineTooLong, OptionsDisagree, ScriptTooLong}
 use Rattle.rht_script.specs.Spelling.{◌>>=◌, lines_of, words_of, is_skipped}
 use Rattle.rht_script.specs.TableLines.{table_of}
 use Rattle.rht_script.specs.ScriptLines.{line_of, commands_among, schedule_among}
@@ -24,7 +24,7 @@ most_lines = 1000000
 abbrev pub most_in_line : ℕ
 most_in_line = 256
 
--- the number by which a fault tells its cause
+-- the number by which a fault tells its cause; no cause has the number 7
 abbrev pub code_of : Cause → ℕ
 code_of NoTableLine = 1
 code_of UnknownWord = 2
@@ -32,7 +32,6 @@ code_of BadNumber = 3
 code_of OutOfRange = 4
 code_of TooManyLines = 5
 code_of LineTooLong = 6
-code_of WrongKind = 7
 code_of OptionsDisagree = 8
 code_of ScriptTooLong = 9
 

@@ -23,8 +23,8 @@ use Rattle.rht_script.specs.ScheduleLines.{event_limits}
 -- ---- what can be said
 
 -- In scripts of this form there is a verb for the call in a table of this config. A bind, a look-up, a listing, a release and
--- a rebind are of any port of this form and any owners. A bind is tried until it ends, and a rebind is in a table of one
--- owner each. A walk goes over the whole table. The work, a tidying and a reading of the count have no numbers.
+-- a rebind are of any port of this form and any owners. A bind is tried until it ends. A walk goes over the whole table. The
+-- work, a tidying and a reading of the count have no numbers.
 abbrev pub IsSayableCall : ℕ → Config → Call → Type 0
 IsSayableCall form config (Bind port owner once) =
     IsPortIn form port × IsWithinLimits owner_limits owner × (once ≡ false)
@@ -33,7 +33,6 @@ IsSayableCall form config (ListAll port) = IsPortIn form port
 IsSayableCall form config (Release port owner) = IsPortIn form port × IsWithinLimits owner_limits owner
 IsSayableCall form config (Rebind port owner new) =
     IsPortIn form port × IsWithinLimits owner_limits owner × IsWithinLimits owner_limits new
-    × (config.kind ≡ Single)
 IsSayableCall form config (Walk from limit) = Walk from limit ≡ whole_walk config
 IsSayableCall form config Work = Unit {0}
 IsSayableCall form config Tidy = Unit {0}

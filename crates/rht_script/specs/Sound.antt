@@ -1,9 +1,7 @@
 -- Which scripts can be run: those whose config a table can be opened with, and whose lines fit it.
-use Rattle.std.specs.Prelude.{ℕ, ◌≤◌, IsTrue, Bool, true, false, ◌&&◌, ◌==◌, not, is_none, vec_len}
+use Rattle.std.specs.Prelude.{ℕ, ◌≤◌, IsTrue, Bool, true, ◌&&◌, ◌==◌, not, is_none, vec_len}
 use Rattle.std.specs.List.{list_all}
 use Rattle.rht_words.specs.declared.config.Config.{Config}
-use Rattle.rht_words.specs.declared.config.Kind.{Kind}
-use Rattle.rht_words.specs.declared.config.Kind.TheVariants.{Single, Listed}
 use Rattle.rht_words.specs.Settled.{IsSettled}
 use Rattle.rht_model.specs.declared.history.Call.{Call}
 use Rattle.rht_model.specs.declared.history.Call.TheVariants.{Bind, Find, All, Release, Rebind, Walk, Work, Tidy, Count}
@@ -16,15 +14,9 @@ use Rattle.rht_script.specs.PortWords.{IsForm, is_port_in}
 use Rattle.rht_script.specs.ScheduleLines.{event_limits}
 use Rattle.rht_script.specs.Spelling.{is_within}
 
--- a port has at most one owner
-abbrev pub is_single : Kind → Bool
-is_single Single = true
-is_single Listed = false
-
--- a bind is tried until it ends, a rebind is in a table of one owner each, and a walk goes over the whole table
+-- a bind is tried until it ends, and a walk goes over the whole table
 abbrev pub is_sound_call : Config → Call → Bool
 is_sound_call config (Bind port owner once) = not once
-is_sound_call config (Rebind port owner new) = is_single config.kind
 is_sound_call config (Walk from limit) = is_none from && limit == config.nodes
 is_sound_call config _ = true
 

@@ -101,7 +101,6 @@ cause_text cause =
     else if cause == 4 then codes "number out of range"
     else if cause == 5 then codes "too many lines"
     else if cause == 6 then codes "line too long"
-    else if cause == 7 then codes "wrong kind of table"
     else if cause == 8 then codes "options do not agree"
     else codes "script too long"
 

@@ -5,7 +5,7 @@ ghost use Rattle.rht_script.specs.Grammar.{code_of, coded, fault_at, at_line};
 
 use crate::script::ScriptFault;
 
-/// Why a line is no line of a script, by the number that a fault tells.
+/// Why a line is no line of a script, by the number that a fault tells. No cause has the number 7.
 #[derive(Clone, Copy, Debug, PartialEq, Eq)]
 pub enum Cause {
     /// The first line that isn't skipped doesn't begin with `table`, or there is none.
@@ -20,8 +20,6 @@ pub enum Cause {
     TooManyLines = 5,
     /// The line has too many bytes.
     LineTooLong = 6,
-    /// The line is a command that a table of this kind doesn't serve.
-    WrongKind = 7,
     /// An option stands twice, the least size is above the greatest, or the first table has no room.
     OptionsDisagree = 8,
     /// The script has too many bytes.

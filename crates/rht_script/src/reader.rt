@@ -301,7 +301,7 @@ fn call(table: &TableLine, mut words: Words) -> Result<Call, Cause>
     } else if verb == RELEASE {
         release(table.form, words)
     } else if verb == REBIND {
-        rebind(table.form, table.config.kind, words)
+        rebind(table.form, words)
     } else if verb == WALK {
         bare(whole_walk(&table.config), words)
     } else if verb == WORK {
@@ -361,19 +361,16 @@ fn release(form: u32, mut words: Words) -> Result<Call, Cause>
     Ok(Call::Release { port, owner })
 }
 
-/// A rebind of these words. That the table is of the wrong kind is the line's last fault.
+/// A rebind of these words.
 #[tactic(auto, unfolding(crate::specs::CommandLines::rebind_of))]
-fn rebind(form: u32, kind: Kind, mut words: Words) -> Result<Call, Cause>
-    ensures { result ≡ rebind_of form kind words.entry }
+fn rebind(form: u32, mut words: Words) -> Result<Call, Cause>
+    ensures { result ≡ rebind_of form words.entry }
 {
     let port = words.port(form)?;
     let owner = words.number(OWNER)?;
     let new = words.number(OWNER)?;
     words.end()?;
-    match kind {
-        Kind::Single => Ok(Call::Rebind { port, owner, new }),
-        Kind::Listed => Err(Cause::WrongKind),
-    }
+    Ok(Call::Rebind { port, owner, new })
 }
 
 /// A walk over the whole table: it begins at the first bucket, and may show as many pairs as there

@@ -8,7 +8,7 @@ ghost use Rattle.rht_script.specs.PortWords.{is_port_in};
 ghost use Rattle.rht_script.specs.CommandLines.{worker_limits};
 
 use rht_model::Call;
-use rht_words::{Config, Kind, Limits, Port};
+use rht_words::{Config, Limits, Port};
 use std::alloc::{AllocError, AllocFailed};
 
 /// What a table line says.
@@ -125,7 +125,6 @@ fn is_sound_call(config: &Config, call: Call) -> bool
 {
     match call {
         Call::Bind { once, .. } => !once,
-        Call::Rebind { .. } => config.kind == Kind::Single,
         Call::Walk { from, limit } => from.is_none() && limit == config.nodes,
         _ => true,
     }
@@ -178,7 +177,7 @@ pub struct ScriptFault {
     pub line: u32,
     /// The cause: 1, no table line; 2, a word that is unknown, missing or one too many; 3, no
     /// number where one has to stand; 4, a number out of range; 5, too many lines; 6, a line too
-    /// long; 7, a rebind in a table of lists; 8, options that disagree; 9, too many bytes.
+    /// long; 8, options that disagree; 9, too many bytes.
     pub cause: u8,
 }
 

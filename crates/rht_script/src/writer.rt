@@ -290,7 +290,6 @@ fn cause_text(cause: u8) -> &'static [u8]
         4 => b"number out of range",
         5 => b"too many lines",
         6 => b"line too long",
-        7 => b"wrong kind of table",
         8 => b"options do not agree",
         _ => b"script too long",
     }

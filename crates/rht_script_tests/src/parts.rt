@@ -262,17 +262,22 @@ fn reads_command_lines_with_nets(rt: HostRuntime) -> Result<(), Fail> {
 }
 
 #[test]
-fn the_kind_of_table_is_asked_last(rt: HostRuntime) -> Result<(), Fail> {
+fn reads_rebinds_in_tables_of_lists(rt: HostRuntime) -> Result<(), Fail> {
     let listed = table_line(b"table listed")?;
+    let rebind = Call::Rebind {
+        port: Port::plain(80),
+        owner: 1,
+        new: 2,
+    };
     let cases = [
-        ("1 rebind 80 1 2", 7),
-        ("1 rebind 3.80 1 2", 3),
-        ("1 rebind 80 1 x", 3),
-        ("1 rebind 80 1 2 3", 2),
+        ("1 rebind 80 1 2", Ok((1, rebind))),
+        ("1 rebind 3.80 1 2", Err(3)),
+        ("1 rebind 80 1 x", Err(3)),
+        ("1 rebind 80 1 2 3", Err(2)),
     ];
-    for (line, cause) in cases {
-        let found = command_line(line.as_bytes(), &listed).err();
-        assert_same(&rt, &found, &Some(cause), line);
+    for (line, read) in cases {
+        let found = command_line(line.as_bytes(), &listed);
+        assert_same(&rt, &found, &read, line);
     }
     Ok(())
 }

@@ -174,7 +174,7 @@ fn reads_scripts(rt: HostRuntime) -> Result<(), Fail> {
             ],
         ),
         (
-            "table listed workers 16 nodes 7\n16 find 0\n1 walk\n",
+            "table listed workers 16 nodes 7\n16 find 0\n2 rebind 0 1 1\n1 walk\n",
             Config {
                 kind: Kind::Listed,
                 callers: 16,
@@ -186,6 +186,14 @@ fn reads_scripts(rt: HostRuntime) -> Result<(), Fail> {
                     16,
                     Call::Find {
                         port: Port::plain(0),
+                    },
+                ),
+                (
+                    2,
+                    Call::Rebind {
+                        port: Port::plain(0),
+                        owner: 1,
+                        new: 1,
                     },
                 ),
                 (

@@ -119,7 +119,7 @@ fn tells_scripts_that_can_be_run(rt: HostRuntime) -> Result<(), Fail> {
             },
             false,
         ),
-        // A bind is tried until it ends, a rebind needs one owner each, and a walk goes over all.
+        // A bind is tried until it ends, a rebind is in tables of both kinds, and a walk goes over all.
         (
             config,
             (
@@ -134,7 +134,7 @@ fn tells_scripts_that_can_be_run(rt: HostRuntime) -> Result<(), Fail> {
             false,
         ),
         (config, (1, rebind()), last, true),
-        (listed, (1, rebind()), last, false),
+        (listed, (1, rebind()), last, true),
         (
             config,
             (

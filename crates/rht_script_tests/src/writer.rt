@@ -185,7 +185,6 @@ fn each_fault_has_its_line(rt: HostRuntime) -> Result<(), Fail> {
         (4, "number out of range"),
         (5, "too many lines"),
         (6, "line too long"),
-        (7, "wrong kind of table"),
         (8, "options do not agree"),
         (9, "script too long"),
     ];

@@ -9,6 +9,8 @@ mod asserts;
 #[cfg(test)]
 mod library;
 #[cfg(test)]
+mod rebinding;
+#[cfg(test)]
 mod registry;
 #[cfg(test)]
 mod replaying;

@@ -2,7 +2,6 @@
 //! from what the calls say.
 
 ghost use Rattle.std.specs.Prelude.{◌≡◌, true, IfOk, IfSome};
-ghost use Rattle.rht_words.specs.declared.config.Kind.TheVariants.{Single};
 ghost use Rattle.rht_core.specs.Locals.{is_idle};
 ghost use Rattle.rht_run.specs.Passes.{IsPassOf, AreNew, IsNew};
 
@@ -63,7 +62,6 @@ fn opened<M: Mix>(
 fn each_call<M: Mix, R: Wait>(rt: &R, table: &Table<M>, pass: &mut Pass<M>) -> [Reply; 9]
     requires pass { IsPassOf M.mix_of table.now pass.old }
     requires idle { is_idle pass.old.local ≡ true }
-    requires single { table.now.env.config.kind ≡ Single }
     ensures pass { IsPassOf M.mix_of table.now pass.new }
 {
     let (port, second) = (Port::plain(5), Port::plain(6));

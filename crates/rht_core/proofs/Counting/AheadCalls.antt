@@ -19,7 +19,6 @@ use Rattle.rht_model.specs.Endings.{Ending}
 use Rattle.rht_model.specs.declared.history.Call.{Call}
 use Rattle.rht_model.specs.declared.history.Call.TheVariants.{Bind, Release}
 use Rattle.rht_release.specs.Seek.{seek_plan_at}
-use Rattle.rht_release.specs.declared.release.ReleaseAt.TheVariants.{Seeking}
 use Rattle.rht_core.specs.declared.event.Event.{Event}
 use Rattle.rht_core.specs.Jobs.{Job, binds, releases, job_of, call_of, job_after, held_of}
 use Rattle.rht_core.specs.Runs.{World, IsAdmitted, local_of, run_of}
@@ -35,6 +34,9 @@ use Rattle.rht_words.specs.Places.{PortCount, place_of}
 use Rattle.rht_release.specs.Release.{plan_at}
 use Rattle.rht_release.specs.declared.release.ReleaseAt.{ReleaseAt}
 use Rattle.rht_release.specs.declared.release.ReleaseAt.TheVariants as at
+use Rattle.rht_release.specs.ListSearch.{search_plan}
+use Rattle.rht_release.specs.declared.list_search.ListSearch.{ListSearch}
+use Rattle.rht_release.specs.declared.list_search.ListSearch.TheVariants as searches
 use Rattle.rht_release.specs.declared.seek.SeekAt.{SeekAt}
 use Rattle.rht_release.specs.declared.seek.SeekAt.TheVariants as seeks
 use Rattle.rht_ghost.proofs.Theory.Answering.{Says}
@@ -103,6 +105,11 @@ release-none g env c (at.Seeking seek) is = seek-none seek.geometry seek.at is
     seek-none h (seeks.Locating locate) is = locate-none g locate.geometry locate.table locate.at is
     seek-none h (seeks.Probing table shape probe) is = probe-none g probe.at is
     seek-none h _ is = cc
+release-none g env c (at.Searching found search) is = search-none env.geometry search is
+  where
+    search-none : (h : Geometry) (search : ListSearch) → search_plan h search ≢ Add (place_of g PortCount) 1
+    search-none h (searches.Owner node before) is = cc
+    search-none h (searches.ListLink node) is = cc
 release-none g env c (at.Promoting found relink) is = relink-none g relink relink.at is
 release-none g env c (at.Unlinking found relink) is = relink-none g relink relink.at is
 release-none g env c _ is = cc
@@ -241,7 +248,7 @@ module _ (M : Type 0) (mix : ℕ → ℕ → ℕ → ℕ) (env : Env) (events : 
 
   -- ---- callers
 
-  module _ (admitted : IsAdmitted env.config.kind events) where
+  module _ (admitted : IsAdmitted events) where
     abbrev w : World M
     w = run_of mix env events
 

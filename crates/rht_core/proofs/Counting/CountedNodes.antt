@@ -107,43 +107,43 @@ module _ (env : Env) (mix : ℕ → ℕ → ℕ → ℕ) (M : Type 0) where
       omega (arith, few, counted)
 
   -- whoever makes an operation on the count finds it at most the nodes
-  found_few : (events : List Event) (c : ℕ) (did : Did) (op : Op) → IsAdmitted env.config.kind events → did.op ≡ op
+  found_few : (events : List Event) (c : ℕ) (did : Did) (op : Op) → IsAdmitted events → did.op ≡ op
       → ((words : List ℕ) → old_of words op ≡ word_at env.geometry words PortCount)
       → IsRecorded M mix env events c did → did.old ≤ env.geometry.nodes
   found_few events c did op admitted same reads is =
       let before = take did.index events in
       let core : Core M = (run_of mix env before).core in
-      let has = has_inv env mix M before (taken (IsAdmittedEvent env.config.kind) did.index events admitted) in
+      let has = has_inv env mix M before (taken IsAdmittedEvent did.index events admitted) in
       let found : did.old ≡ word_at env.geometry core.words PortCount =
       sym is.found ∙ ap (old_of core.words) same ∙ reads core.words in
       let few = count_few core has.ghost has.inv in
       omega (arith, found, few)
 
-  pub load_few : (events : List Event) (c : ℕ) (did : Did) → IsAdmitted env.config.kind events
+  pub load_few : (events : List Event) (c : ℕ) (did : Did) → IsAdmitted events
       → did.op ≡ Load (place_of env.geometry PortCount) → IsRecorded M mix env events c did
       → did.old ≤ env.geometry.nodes
   load_few events c did admitted loads is =
       found_few events c did (Load (place_of env.geometry PortCount)) admitted loads (λ words. refl) is
 
-  pub lower_few : (events : List Event) (c : ℕ) (did : Did) → IsAdmitted env.config.kind events
+  pub lower_few : (events : List Event) (c : ℕ) (did : Did) → IsAdmitted events
       → did.op ≡ Sub (place_of env.geometry PortCount) 1 → IsRecorded M mix env events c did
       → did.old ≤ env.geometry.nodes
   lower_few events c did admitted lowers is =
       found_few events c did (Sub (place_of env.geometry PortCount) 1) admitted lowers (λ words. refl) is
 
   -- Whoever raises the count found it below the nodes, since it is at most the nodes behind that too.
-  pub raise_few : (events : List Event) (c : ℕ) (did : Did) → IsAdmitted env.config.kind events
+  pub raise_few : (events : List Event) (c : ℕ) (did : Did) → IsAdmitted events
       → did.op ≡ Add (place_of env.geometry PortCount) 1 → IsRecorded M mix env events c did
       → did.old + 1 ≤ env.geometry.nodes
   raise_few events c did admitted adds is =
       let before = take did.index events in
       let more = before ++ Step c ∷ [] in
       let core : Core M = (run_of mix env before).core in
-      let admitted_event : IsAdmittedEvent env.config.kind (Step c) = each_event
-      (IsAdmittedEvent env.config.kind) events did.index (Step c) is.event admitted in
-      let admitted_before = taken (IsAdmittedEvent env.config.kind) did.index events admitted in
+      let admitted_event : IsAdmittedEvent (Step c) = each_event
+      IsAdmittedEvent events did.index (Step c) is.event admitted in
+      let admitted_before = taken IsAdmittedEvent did.index events admitted in
       let has = has_inv env mix M before admitted_before in
-      let later = has_inv env mix M more (AllByRecursion-push (IsAdmittedEvent env.config.kind) before
+      let later = has_inv env mix M more (AllByRecursion-push IsAdmittedEvent before
       (Step c) admitted_before admitted_event) in
       let words : (run_of {M = M} mix env more).core.words ≡ applied core.words did.op =
       ap (λ (w : World M). w.core.words) (run_of-push M mix env before (Step c))

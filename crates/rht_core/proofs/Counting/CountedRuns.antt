@@ -233,7 +233,7 @@ module _ (M : Type 0) (mix : ℕ → ℕ → ℕ → ℕ) where
           (range_with_len 0 e.geometry.callers)
 
   -- by what their jobs hold
-  pub counted_by : (env : Env) (events : List Event) → IsAdmitted env.config.kind events
+  pub counted_by : (env : Env) (events : List Event) → IsAdmitted events
       → IsCountedBy env (run_of {M = M} mix env events).core
   counted_by env events admitted =
       let core : Core M = (run_of mix env events).core in
@@ -266,7 +266,7 @@ module _ (M : Type 0) (mix : ℕ → ℕ → ℕ → ℕ) where
       }
 
   -- each node is free, in a port's list or in a batch
-  batched_at : (env : Env) (events : List Event) → IsAdmitted env.config.kind events → IsQuiet M mix env events
+  batched_at : (env : Env) (events : List Event) → IsAdmitted events → IsQuiet M mix env events
       → AreBatched env (run_of {M = M} mix env events).core
   batched_at env events admitted quiet =
       let core : Core M = (run_of mix env events).core in

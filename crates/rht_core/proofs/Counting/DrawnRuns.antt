@@ -58,7 +58,7 @@ module _ (env : Env) (mix : ℕ → ℕ → ℕ → ℕ) where
         grown = none-grown has.ghost has.of_table;
       })
 
-      enroll-drawn : IsAdmittedEvent env.config.kind Enroll → Counted (world_step mix w Enroll)
+      enroll-drawn : IsAdmittedEvent Enroll → Counted (world_step mix w Enroll)
       enroll-drawn may =
           let v = world_step mix w Enroll in
           let k = kept env mix L w.core has.ghost Enroll has.all has.inv in
@@ -84,7 +84,7 @@ module _ (env : Env) (mix : ℕ → ℕ → ℕ → ℕ) where
             grown = none-grown has.ghost has.of_table;
           }
 
-      begin-drawn : (c : ℕ) (call : Call) (machine : Option (Doing L)) → IsAdmittedEvent env.config.kind (Begin c call)
+      begin-drawn : (c : ℕ) (call : Call) (machine : Option (Doing L)) → IsAdmittedEvent (Begin c call)
           → beginning_in w.core c call ≡ machine → Counted (world_step mix w (Begin c call))
       begin-drawn c call None may is = nothing-drawn (world_step mix w (Begin c call)) (begin_none L mix w c call is)
       begin-drawn c call (Some machine) may is =
@@ -118,7 +118,7 @@ module _ (env : Env) (mix : ℕ → ℕ → ℕ → ℕ) where
               (subst (DrawnLeft M (has.of_caller c)) (sym first.does)
               (begins-drawn M (has.of_caller c) env call first.job first.first))
 
-      step-count : (c : ℕ) (op : Op) → IsAdmittedEvent env.config.kind (Step c) → (is : planned_in w.core c ≡ Some op)
+      step-count : (c : ℕ) (op : Op) → IsAdmittedEvent (Step c) → (is : planned_in w.core c ≡ Some op)
           → (of : StepOf env mix L w.core has.ghost c op)
           → (step-draws env mix L w drawn has c op is of).count ≡ drawn + cond (next_serial w == next_serial (world_step mix w (Step c))) 0 1
       step-count c op may is of =
@@ -129,7 +129,7 @@ module _ (env : Env) (mix : ℕ → ℕ → ℕ → ℕ) where
           ∙ ap (λ s. drawn + cond (s == after env mix L w drawn has c op is of NextSerial) 0 1) (sym (serial-of w has.inv.same_env))
           ∙ ap (λ s. drawn + cond (next_serial w == s) 0 1) (sym (serial-of v k.inv.same_env ∙ same))
 
-      step-drawn : (c : ℕ) (plan : Option Op) → IsAdmittedEvent env.config.kind (Step c) → planned_in w.core c ≡ plan
+      step-drawn : (c : ℕ) (plan : Option Op) → IsAdmittedEvent (Step c) → planned_in w.core c ≡ plan
           → Counted (world_step mix w (Step c))
       step-drawn c None may is = nothing-drawn (world_step mix w (Step c)) (step_none L mix w c is)
       step-drawn c (Some op) may is =
@@ -177,7 +177,7 @@ module _ (env : Env) (mix : ℕ → ℕ → ℕ → ℕ) where
               (sym (step_self L mix w c op is place))
               (subst (DrawnLeft (after env mix L w drawn has c op is of) (draws.of_caller c)) (sym left) draws.left)
 
-      event-drawn : (event : Event) → IsAdmittedEvent env.config.kind event → Counted (world_step mix w event)
+      event-drawn : (event : Event) → IsAdmittedEvent event → Counted (world_step mix w event)
       event-drawn Enroll may = enroll-drawn may
       event-drawn (Begin c call) may = begin-drawn c call (beginning_in w.core c call) may refl
       event-drawn (Step c) may = step-drawn c (planned_in w.core c) may refl
@@ -201,7 +201,7 @@ module _ (env : Env) (mix : ℕ → ℕ → ℕ → ℕ) where
         jobs = has.jobs;
       })
 
-      enroll-draws : IsAdmittedEvent env.config.kind Enroll → EventDraws Enroll has.ghost
+      enroll-draws : IsAdmittedEvent Enroll → EventDraws Enroll has.ghost
       unfolding enroll-drawn
       enroll-draws may =
           let now = (enroll-drawn may).now in
@@ -216,7 +216,7 @@ module _ (env : Env) (mix : ℕ → ℕ → ℕ → ℕ) where
             by = inl (sym (same-counted v (serial-of v k.inv.same_env ∙ same ∙ sym (serial-of w has.inv.same_env))));
           }
 
-      begin-draws : (c : ℕ) (call : Call) (machine : Option (Doing L)) → IsAdmittedEvent env.config.kind (Begin c call)
+      begin-draws : (c : ℕ) (call : Call) (machine : Option (Doing L)) → IsAdmittedEvent (Begin c call)
           → beginning_in w.core c call ≡ machine → EventDraws (Begin c call) has.ghost
       unfolding begin-drawn
       begin-draws c call None may is = record {
@@ -233,7 +233,7 @@ module _ (env : Env) (mix : ℕ → ℕ → ℕ → ℕ) where
             by = inl (sym (same-counted v refl));
           }
 
-      step-draws-at : (c : ℕ) (plan : Option Op) → IsAdmittedEvent env.config.kind (Step c) → planned_in w.core c ≡ plan
+      step-draws-at : (c : ℕ) (plan : Option Op) → IsAdmittedEvent (Step c) → planned_in w.core c ≡ plan
           → EventDraws (Step c) (kept env mix L w.core has.ghost (Step c) has.all has.inv).ghost
       unfolding step-drawn
       step-draws-at c None may is =
@@ -258,7 +258,7 @@ module _ (env : Env) (mix : ℕ → ℕ → ℕ → ℕ) where
             ];
           }
 
-      pub event-draws : (event : Event) → IsAdmittedEvent env.config.kind event
+      pub event-draws : (event : Event) → IsAdmittedEvent event
           → EventDraws event (kept env mix L w.core has.ghost event has.all has.inv).ghost
       event-draws Enroll may =
           subst (EventDraws Enroll) (sym (kept env mix L w.core has.ghost Enroll has.all has.inv).ghost_kept) (enroll-draws may)
@@ -297,7 +297,7 @@ module _ (env : Env) (mix : ℕ → ℕ → ℕ → ℕ) where
       jobs = opening-drawn.jobs;
     }
 
-    pub from-drawn : (w : World L) (drawn : ℕ) (events : List Event) → IsAdmitted env.config.kind events → (has : HasDrawn env mix L w drawn)
+    pub from-drawn : (w : World L) (drawn : ℕ) (events : List Event) → IsAdmitted events → (has : HasDrawn env mix L w drawn)
         → IsLater env mix L w drawn has (run_from mix w events) (drawn + drawn_from L mix w events)
     from-drawn w drawn [] admitted has = record {
       now = recount env mix L w drawn (drawn + 0) (let same : drawn ≡ drawn + 0 = omega arith in same) has;
@@ -315,6 +315,6 @@ module _ (env : Env) (mix : ℕ → ℕ → ℕ → ℕ) where
           grown = grown-on has.ghost first.now.ghost rest.now.ghost has.of_table first.now.of_table rest.now.of_table first.grown rest.grown;
         }
 
-    pub runs-drawn : (events : List Event) → IsAdmitted env.config.kind events
+    pub runs-drawn : (events : List Event) → IsAdmitted events
         → HasDrawn env mix L (run_of mix env events) (1 + drawn_from L mix (opening env) events)
     runs-drawn events admitted = (from-drawn (opening env) 1 events admitted opening-drawn).now

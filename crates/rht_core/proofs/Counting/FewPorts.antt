@@ -32,7 +32,7 @@ use Rattle.rht_move.specs.declared.work.WorkAt.TheVariants as work_at
 use Rattle.rht_model.specs.Endings.{Ending, ending_in, plain_ending}
 use Rattle.rht_model.specs.declared.finished.Finished.{Finished}
 use Rattle.rht_model.specs.declared.history.Call.{Call}
-use Rattle.rht_model.specs.declared.history.Call.TheVariants.{Bind, Rebind, Walk, Work, Tidy}
+use Rattle.rht_model.specs.declared.history.Call.TheVariants.{Bind, Walk, Work, Tidy}
 use Rattle.rht_core.specs.declared.event.Event.{Event}
 use Rattle.rht_core.specs.declared.event.Event.TheVariants.{Enroll, Begin, Step}
 use Rattle.rht_core.specs.FewPorts.{IsNoTableMade, IsCallTaken, StaysWithFirst, FewPorts}
@@ -44,7 +44,7 @@ use Rattle.rht_core.specs.Traces.{Did, Past, Traced, traced_of}
 use Rattle.rht_core.proofs.Machines.JobSteps.{JobIn}
 use Rattle.rht_core.proofs.Events.Invariants.{step_of}
 use Rattle.rht_core.proofs.Events.InvariantRuns.{has_inv}
-use Rattle.rht_core.proofs.Events.JobsOfCallers.{first_rebind-so, first_tidy-so, each_goes, same_call, first-of}
+use Rattle.rht_core.proofs.Events.JobsOfCallers.{first_tidy-so, each_goes, same_call, first-of}
 use Rattle.rht_core.proofs.Events.Worlds.{induct_by_last, take-push, take-push_all, run_of-push, step_none, step_words}
 use Rattle.rht_core.proofs.Tracing.TracedJobs.{Performs, LeadsOn, IsKeeping, IsAtJob, jobs_keep_own}
 use Rattle.rht_core.proofs.Tracing.TracedRuns.{world-traced_of}
@@ -257,12 +257,11 @@ module _ (M : Type 0) (mix : ℕ → ℕ → ℕ → ℕ) (env : Env) (roomy : I
     first_walk-calm (Some cursor) = tt
 
     first-calm : (call : Call) (batch : Option BatchModel) → IfSome (first_job env batch call) (CalmJob env)
-    first-calm (Rebind port owner new) batch = first_rebind-so (CalmJob env) env port owner new tt
     first-calm (Walk from limit) batch = first_walk-calm from
     first-calm Tidy batch = first_tidy-so (CalmJob env) batch (λ own. tt)
     first-calm _ batch = tt
 
-    calls-calm : IsAdmitted env.config.kind events
+    calls-calm : IsAdmitted events
         → let r : Traced M = traced_of mix env events in IsKeeping M mix env Now Ended (view_of r.world c) (r.traces c)
     calls-calm admitted =
         jobs_keep_own M mix env Now Ended events c record {
@@ -274,7 +273,7 @@ module _ (M : Type 0) (mix : ℕ → ℕ → ℕ → ℕ) (env : Env) (roomy : I
 
   -- ---- one event
 
-  module _ (events : List Event) (admitted : IsAdmitted env.config.kind events) (few : AreFew events) (unmade : AreUnmade events) where
+  module _ (events : List Event) (admitted : IsAdmitted events) (few : AreFew events) (unmade : AreUnmade events) where
     abbrev w : World M
     w = run_of mix env events
 
@@ -314,12 +313,12 @@ module _ (M : Type 0) (mix : ℕ → ℕ → ℕ → ℕ) (env : Env) (roomy : I
 
   -- ---- all events
 
-  pub runs-unmade : (events : List Event) → IsAdmitted env.config.kind events → AreFew events → AreUnmade events
+  pub runs-unmade : (events : List Event) → IsAdmitted events → AreFew events → AreUnmade events
   runs-unmade =
-      induct_by_last (λ events. IsAdmitted env.config.kind events → AreFew events → AreUnmade events)
+      induct_by_last (λ events. IsAdmitted events → AreFew events → AreUnmade events)
       (λ none few i. opened i)
       (λ events event each all few.
-      let admitted = (AllByRecursion-cut (IsAdmittedEvent env.config.kind) events (event ∷ []) all).0 in
+      let admitted = (AllByRecursion-cut IsAdmittedEvent events (event ∷ []) all).0 in
       let before = before-push M mix env events event (HasFew env) few in
       let unmade = each admitted before in
       before-more M mix env events event (IsNoTableMade env) unmade (event-unmade events admitted before unmade event))
@@ -332,7 +331,7 @@ module _ (M : Type 0) (mix : ℕ → ℕ → ℕ → ℕ) (env : Env) (roomy : I
   abbrev Taken : Finished → Type 0
   Taken done = IsCallTaken done.call done.reply
 
-  pub calls-taken : (events : List Event) → IsAdmitted env.config.kind events → AreFew events → StaysWithFirst env (run_of {M = M} mix env events)
+  pub calls-taken : (events : List Event) → IsAdmitted events → AreFew events → StaysWithFirst env (run_of {M = M} mix env events)
   calls-taken events admitted few =
       let r : Traced M = traced_of mix env events in
       let unmade = runs-unmade events admitted few in
@@ -354,7 +353,7 @@ pub few_ports : (M : Type 0) (mix : ℕ → ℕ → ℕ → ℕ) → FewPorts M 
 few_ports M mix env events admitted has =
     calls-taken M mix env (record { first = has.first; keeps_size = has.keeps_size }) events admitted
     (λ i.
-    let first = taken (IsAdmittedEvent env.config.kind) i events admitted in
+    let first = taken IsAdmittedEvent i events admitted in
     let most = few-bound M mix env events admitted has.ports has.among i in
     let count = count-few M mix env (take i events) (length has.ports) first most in
     let callers = env.geometry.within.callers_within.1 in

@@ -131,13 +131,13 @@ module _ (M : Type 0) (mix : ℕ → ℕ → ℕ → ℕ) (env : Env) where
 
   -- what such an operation found is no less than the ports bound at its event, and no more than these and the other callers
   -- in mid-call there
-  pub counted_at : (events : List Event) (c count : ℕ) (did : Did) → IsAdmitted env.config.kind events
+  pub counted_at : (events : List Event) (c count : ℕ) (did : Did) → IsAdmitted events
       → did.op ≡ Load (place_of env.geometry PortCount) → did.old ≡ count
       → IsRecorded M mix env events c did → CountedAt M mix env events c count did
   counted_at events c count did admitted loaded found is =
       let before = take did.index events in
       let core : Core M = (run_of mix env before).core in
-      let has = has_inv env mix M before (taken (IsAdmittedEvent env.config.kind) did.index events
+      let has = has_inv env mix M before (taken IsAdmittedEvent did.index events
       admitted) in
       let G = has.ghost in
       let place = place_of env.geometry PortCount in

@@ -148,7 +148,7 @@ module _ (env : Env) (Good Fit : ℕ → Type 0) (keeps_works : AreMadeGood env 
             (subst (λ o. Left (told (job_after mix env of.job (old_of w.core.words o))).0) (sym of.plan)
             (goes-good c w.core.words has.ghost has.inv.whole has.good of.job of.within of.knows (subst Left of.is (has.jobs c))))
 
-      event-good : (event : Event) → IsAdmittedEvent env.config.kind event → HasGood (world_step mix w event)
+      event-good : (event : Event) → IsAdmittedEvent event → HasGood (world_step mix w event)
       event-good event may =
           let k = kept env mix L w.core has.ghost event has.all has.inv in
           record {
@@ -171,7 +171,7 @@ module _ (env : Env) (Good Fit : ℕ → Type 0) (keeps_works : AreMadeGood env 
       jobs = λ c. rw (idle_at_opening env mix L c) tt;
     }
 
-    pub runs-good : (events : List Event) → IsAdmitted env.config.kind events → HasGood (run_of mix env events)
+    pub runs-good : (events : List Event) → IsAdmitted events → HasGood (run_of mix env events)
     runs-good events admitted =
-        run_keeps_admitted L mix env.config.kind HasGood (λ w event may has. event-good w has event may) (opening env) events admitted
+        run_keeps_admitted L mix HasGood (λ w event may has. event-good w has event may) (opening env) events admitted
         opening-good

@@ -6,13 +6,13 @@ use Rattle.rht_words.specs.declared.env.Env.{Env}
 use Rattle.rht_words.specs.declared.machine.Next.{Next}
 use Rattle.rht_words.specs.declared.machine.Next.TheVariants.{Go, Done}
 use Rattle.rht_model.specs.declared.history.Call.{Call}
-use Rattle.rht_model.specs.declared.history.Call.TheVariants.{Rebind, Tidy}
+use Rattle.rht_model.specs.declared.history.Call.TheVariants.{Tidy}
 use Rattle.rht_model.specs.Endings.{Ending}
 use Rattle.rht_nest.specs.Make.{MakeModel}
 use Rattle.rht_grace.specs.Batch.{BatchModel}
 use Rattle.rht_core.specs.Jobs.{Job, finds, binds, lists, releases, rebinds, works, tidies, walks, counts, call_of, first_job, job_next, job_after, told, IsFirstJob}
 use Rattle.rht_core.proofs.Machines.NeverHeld.{may_make}
-use Rattle.rht_core.proofs.Events.JobsOfCallers.{first_rebind-so, first_tidy-so, same_call, first-of}
+use Rattle.rht_core.proofs.Events.JobsOfCallers.{first_tidy-so, same_call, first-of}
 use Rattle.rht_core.proofs.Counting.MakingWorks.{WorkMakes}
 use Rattle.rht_core.proofs.Counting.MakingBinds.{BindMakes}
 
@@ -55,7 +55,6 @@ module _ (Full : ℕ → Type 0) (Makes : MakeModel → Type 0) (Has : ℕ → �
   -- ---- the first job of a call
 
   first-makes : (env : Env) (call : Call) (batch : Option BatchModel) → IfSome (first_job env batch call) JobMakes
-  first-makes env (Rebind port owner new) batch = first_rebind-so JobMakes env port owner new tt
   first-makes env Tidy batch = first_tidy-so JobMakes batch (λ own. tt)
   first-makes env _ batch = tt
 

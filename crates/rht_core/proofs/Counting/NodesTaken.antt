@@ -423,7 +423,7 @@ module _ (mix : ℕ → ℕ → ℕ → ℕ) (env : Env) where
   }
 
 -- what calls have taken is kept in every run
-pub calls_take : (M : Type 0) (mix : ℕ → ℕ → ℕ → ℕ) (env : Env) (events : List Event) (c : ℕ) → IsAdmitted env.config.kind events
+pub calls_take : (M : Type 0) (mix : ℕ → ℕ → ℕ → ℕ) (env : Env) (events : List Event) (c : ℕ) → IsAdmitted events
     → let r : Traced M = traced_of mix env events in
     IsKeeping M mix env (JobTakes mix env) (Ended mix env) (view_of r.world c) (r.traces c)
 calls_take M mix env =

@@ -146,7 +146,7 @@ take_all [] (suc i) is = refl
 take_all (first ∷ events) zero is = absurd (cc)
 take_all (first ∷ events) (suc i) is = ap (λ rest. first ∷ rest) (take_all events i is)
 
-module _ (M : Type 0) (mix : ℕ → ℕ → ℕ → ℕ) (env : Env) (events : List Event) (admitted : IsAdmitted env.config.kind events) where
+module _ (M : Type 0) (mix : ℕ → ℕ → ℕ → ℕ) (env : Env) (events : List Event) (admitted : IsAdmitted events) where
   abbrev g : Geometry
   g = env.geometry
 
@@ -164,7 +164,7 @@ module _ (M : Type 0) (mix : ℕ → ℕ → ℕ → ℕ) (env : Env) (events : 
   bit i n = bit_at (word_at g (core_at i).words (NodeMap (n / 64))) (n % 64)
 
   sound : (i : ℕ) → AllIn M mix env (core_at i)
-  sound i = runs-all M mix env (take i events) (taken (IsAdmittedEvent env.config.kind) i events admitted)
+  sound i = runs-all M mix env (take i events) (taken IsAdmittedEvent i events admitted)
 
   -- at opening each bit is set
   set_at_opening : (n : ℕ) → n < g.nodes → bit 0 n ≡ 1
@@ -363,7 +363,7 @@ nodes M mix env events c admitted =
 
 -- ---- what took the nodes before
 
-module _ (M : Type 0) (mix : ℕ → ℕ → ℕ → ℕ) (env : Env) (events : List Event) (admitted : IsAdmitted env.config.kind events)
+module _ (M : Type 0) (mix : ℕ → ℕ → ℕ → ℕ) (env : Env) (events : List Event) (admitted : IsAdmitted events)
     (c : ℕ) (front rest : List Past) (past : Past)
     (parts : ((traced_of {M = M} mix env events).traces c).past ≡ front ++ past ∷ rest)
     (no_node : past.done.reply ≡ NoNode) where

@@ -49,7 +49,7 @@ module _ (env : Env) (mix : ℕ → ℕ → ℕ → ℕ) (words : List ℕ) (G :
         at.slot_is ∙ ap (λ τ. (G.table τ).slot) tables ∙ sym to.slot_is;
   }
 
-pub numbered : (M : Type 0) (mix : ℕ → ℕ → ℕ → ℕ) (env : Env) (events : List Event) → IsAdmitted env.config.kind events
+pub numbered : (M : Type 0) (mix : ℕ → ℕ → ℕ → ℕ) (env : Env) (events : List Event) → IsAdmitted events
     → AreNumbered env (run_of {M = M} mix env events).core.words (drawn_in M mix env events)
 numbered M mix env events admitted =
     let has = runs-drawn env mix M events admitted in
@@ -119,8 +119,8 @@ module _ (M : Type 0) (mix : ℕ → ℕ → ℕ → ℕ) (env : Env) (start bet
 
 pub never_again : (M : Type 0) (mix : ℕ → ℕ → ℕ → ℕ) → NeverAgain M mix
 never_again M mix env before between behind admitted few one other i j same =
-    let parts = AllByRecursion-cut (IsAdmittedEvent env.config.kind) (before ++ between) behind admitted in
-    let first = AllByRecursion-cut (IsAdmittedEvent env.config.kind) before between parts.0 in
+    let parts = AllByRecursion-cut IsAdmittedEvent (before ++ between) behind admitted in
+    let first = AllByRecursion-cut IsAdmittedEvent before between parts.0 in
     let start = run_of {M = M} mix env before in
     let middle = run_from mix start between in
     let some = 1 + drawn_from M mix (opening env) before in

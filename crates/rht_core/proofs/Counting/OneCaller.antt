@@ -26,7 +26,7 @@ use Rattle.rht_words.proofs.OpeningLaws.{opens_flat}
 use Rattle.rht_model.specs.Endings.{Ending, ended_with, plain_ending}
 use Rattle.rht_model.specs.declared.finished.Finished.{Finished}
 use Rattle.rht_model.specs.declared.history.Call.{Call}
-use Rattle.rht_model.specs.declared.history.Call.TheVariants.{Rebind, Tidy}
+use Rattle.rht_model.specs.declared.history.Call.TheVariants.{Tidy}
 use Rattle.rht_model.specs.declared.history.Reply.{Reply}
 use Rattle.rht_bind.specs.Bind.{after_at as bind_after_at}
 use Rattle.rht_nest.specs.Tables.{is_nested}
@@ -66,7 +66,7 @@ use Rattle.rht_core.proofs.Events.BooksInRuns.{BookSays, has_books}
 use Rattle.rht_core.proofs.Events.Invariants.{Inv, StepOf, step_of, kept}
 use Rattle.rht_core.proofs.Events.InvariantRuns.{opening_ghost, opening_inv, idle_at_opening}
 use Rattle.rht_core.proofs.Events.KeptAtEvents.{views_kept, ghosts_kept}
-use Rattle.rht_core.proofs.Events.JobsOfCallers.{first_rebind-so, first_tidy-so, each_goes, same_call, left-job, doing_after-reply, first-of}
+use Rattle.rht_core.proofs.Events.JobsOfCallers.{first_tidy-so, each_goes, same_call, left-job, doing_after-reply, first-of}
 use Rattle.rht_core.proofs.Events.RangesInRuns.{AllIn, opens-all, event-all}
 use Rattle.rht_core.proofs.Events.Worlds.{induct_by_last, run_of-push}
 use Rattle.rht_core.proofs.Tracing.TracedJobs.{Performs, IsAtJob, jobs_keep_own}
@@ -120,7 +120,6 @@ module _ (env : Env) where
     other-one _ other = tt
 
     first-one : (call : Call) (batch : Option BatchModel) → IfSome (first_job env batch call) OneJob
-    first-one (Rebind port owner new) batch = first_rebind-so OneJob env port owner new tt
     first-one Tidy batch = first_tidy-so OneJob batch (λ own. tt)
     first-one _ batch = tt
 
@@ -253,7 +252,7 @@ module _ (L : Type 0) (mix : ℕ → ℕ → ℕ → ℕ) (env : Env) (keeps : e
         pairs = local.pairs.items;
       }
 
-  module _ (events : List Event) (admitted : IsAdmitted env.config.kind events)
+  module _ (events : List Event) (admitted : IsAdmitted events)
       (few : (i : ℕ) → HasFew env (words_before L mix env events i)) (has : HasOne (run_of mix env events)) where
     abbrev w : World L
     w = run_of mix env events
@@ -337,7 +336,7 @@ module _ (L : Type 0) (mix : ℕ → ℕ → ℕ → ℕ) (env : Env) (keeps : e
 
     -- ---- one event
 
-    event-has : (event : Event) → IsAdmittedEvent env.config.kind event → HasOne (world_step mix w event)
+    event-has : (event : Event) → IsAdmittedEvent event → HasOne (world_step mix w event)
     event-has event may =
         let k = kept env mix L w.core has.ghost event has.all has.inv in
         record {
@@ -370,19 +369,19 @@ module _ (L : Type 0) (mix : ℕ → ℕ → ℕ → ℕ) (env : Env) (keeps : e
         ones = λ c. rw (idle_at_opening env mix L c) (tt, tt);
       }
 
-  runs-one : (events : List Event) → IsAdmitted env.config.kind events
+  runs-one : (events : List Event) → IsAdmitted events
       → ((i : ℕ) → HasFew env (words_before L mix env events i)) → HasOne (run_of mix env events)
   runs-one =
       induct_by_last
-      (λ events. IsAdmitted env.config.kind events → ((i : ℕ) → HasFew env (words_before L mix env events i)) → HasOne (run_of mix env events))
+      (λ events. IsAdmitted events → ((i : ℕ) → HasFew env (words_before L mix env events i)) → HasOne (run_of mix env events))
       (λ none few. opening-one)
       (λ events event each all few.
-      let parts = AllByRecursion-cut (IsAdmittedEvent env.config.kind) events (event ∷ []) all in
+      let parts = AllByRecursion-cut IsAdmittedEvent events (event ∷ []) all in
       let before = before-push L mix env events event (HasFew env) few in
       subst HasOne (sym (run_of-push L mix env events event))
       (event-has events parts.0 before (each parts.0 before) event parts.1.0))
 
-  pub runs-taken : (events : List Event) (c : ℕ) → IsAdmitted env.config.kind events
+  pub runs-taken : (events : List Event) (c : ℕ) → IsAdmitted events
       → ((i : ℕ) → HasFew env (words_before L mix env events i))
       → AllByRecursion Taken ((run_of {M = L} mix env events).books c).finished
   runs-taken events c admitted few = ((runs-one events admitted few).ones c).1
@@ -391,7 +390,7 @@ pub one_caller : (M : Type 0) (mix : ℕ → ℕ → ℕ → ℕ) → OneCaller 
 one_caller M mix env events c admitted is =
     runs-taken M mix env is.keeps_size is.first events c admitted
     (λ i.
-    let first = taken (IsAdmittedEvent env.config.kind) i events admitted in
+    let first = taken IsAdmittedEvent i events admitted in
     let words = words_before M mix env events i in
     let count = count-few M mix env (take i events) 15 first (below words (is.few i)) in
     let callers = env.agrees.callers_same in

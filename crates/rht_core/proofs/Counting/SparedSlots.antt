@@ -43,6 +43,9 @@ use Rattle.rht_find.specs.declared.find.FindAt.TheVariants as finds
 use Rattle.rht_release.specs.Seek.{seek_plan_at, IsSeekAtIn}
 use Rattle.rht_release.specs.declared.seek.SeekAt.{SeekAt}
 use Rattle.rht_release.specs.declared.seek.SeekAt.TheVariants as seeks
+use Rattle.rht_release.specs.ListSearch.{search_plan}
+use Rattle.rht_release.specs.declared.list_search.ListSearch.{ListSearch}
+use Rattle.rht_release.specs.declared.list_search.ListSearch.TheVariants as searches
 use Rattle.rht_release.specs.All as all
 use Rattle.rht_release.specs.declared.all.AllAt.{AllAt}
 use Rattle.rht_release.specs.declared.all.AllAt.TheVariants as alls
@@ -125,6 +128,10 @@ reach-spares : (h : Geometry) (table : ℕ) (state : ReachAt) → SparesSlots (r
 reach-spares h table reaches.Shape = by_load _ _ refl
 reach-spares h table _ = by_load _ _ refl
 
+search-spares : (h : Geometry) (search : ListSearch) → SparesSlots (search_plan h search)
+search-spares h (searches.Owner node before) = by_load _ _ refl
+search-spares h (searches.ListLink node) = by_load _ _ refl
+
 -- what opens or closes a section is on the caller's section word
 pub at_section : {c : ℕ} → c < 16 → (op : Op) → op_place op ≡ 8 + c → SparesSlots op
 at_section few op is = inr (inr (inr (inl (omega (arith, is), omega (arith, few, is)))))
@@ -181,6 +188,7 @@ module _ (env : Env) (c : ℕ) where
   release-spares : c < 16 → (state : ReleaseAt) → release.IsReleaseAtIn env state → SparesSlots (release.plan_at env c state)
   release-spares few releases.Opening within = at_section few _ refl
   release-spares few (releases.Seeking seek) within = seek-spares g seek.geometry seek.at within.at_in
+  release-spares few (releases.Searching found search) within = search-spares g search
   release-spares few (releases.CuttingOut found node before link) within = at_node g before ListLink _ refl
   release-spares few (releases.SecondLink found second link) within = at_node g second ChainLink _ refl
   release-spares few (releases.Promoting found relink) within = relink-spares g relink relink.at within.relink_in.place_in
@@ -194,11 +202,14 @@ module _ (env : Env) (c : ℕ) where
   rebind-spares few (rebinds.Filling new) within = new_node-spares new.geometry new.key new.owner new.at
   rebind-spares few (rebinds.Opening node) within = at_section few _ refl
   rebind-spares few (rebinds.Seeking node seek) within = seek-spares g seek.geometry seek.at within.seek_in.at_in
-  rebind-spares few (rebinds.Owner node found) within = by_load _ _ refl
+  rebind-spares few (rebinds.Searching node found search) within = search-spares g search
+  rebind-spares few (rebinds.LinkBehind node found old before) within = by_load _ _ refl
+  rebind-spares few (rebinds.OwnListLink node found old before link) within = at_node g node ListLink _ refl
+  rebind-spares few (rebinds.Swapping node found old before) within = at_node g before ListLink _ refl
   rebind-spares few (rebinds.ChainLink node found) within = by_load _ _ refl
   rebind-spares few (rebinds.Link node found link) within = at_node g node ChainLink _ refl
   rebind-spares few (rebinds.Replacing node found relink) within = relink-spares g relink relink.at within.relink_in.place_in
-  rebind-spares few (rebinds.Unlocking node table unlock) within = unlock-spares g unlock within.unlock_in
+  rebind-spares few (rebinds.Unlocking table unlock end) within = unlock-spares g unlock within.unlock_in
   rebind-spares few (rebinds.Closing end) within = at_section few _ refl
   rebind-spares few (rebinds.Giving give) within = give_node-spares give
 

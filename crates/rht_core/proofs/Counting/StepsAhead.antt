@@ -315,7 +315,8 @@ module _ (env : Env) (mix : ℕ → ℕ → ℕ → ℕ) where
           inr_ahead : GoesAhead env op before after (G.raised c) (G'.raised c) → Turned (Rebinds change)
           inr_ahead goes = inl goes
       rebound (inr (inl is)) = kept change.one change.other is.behind is.tail is.bound_to is.now
-      rebound (inr (inr is)) = kept is.first is.first is.behind is.rest is.bound_to is.now
+      rebound (inr (inr (inl is))) = kept is.first is.first is.behind is.rest is.bound_to is.now
+      rebound (inr (inr (inr is))) = kept is.first is.first is.behind is.rest is.bound_to is.now
 
     -- a node is linked
     linked_turns : (n port j : ℕ) → IsReady env mix c n port j (mem env mix words) G

@@ -20,7 +20,7 @@ use Rattle.rht_core.proofs.Events.SoundRuns.{IsSound-stays, runs-in}
 
 module _ (env : Env) (mix : ℕ → ℕ → ℕ → ℕ) (L : Type 0) where
   -- what a caller hands out it may put in
-  pub may_put : (events : List Event) → IsAdmitted env.config.kind events → (c : ℕ) (op : Op)
+  pub may_put : (events : List Event) → IsAdmitted events → (c : ℕ) (op : Op)
       → let core = (run_of {M = L} mix env events).core in
       planned_in core c ≡ Some op → CanPut (local_of core c).batch (out_of mix (local_of core c).doing (old_of core.words op))
   may_put events admitted c op plan =
@@ -30,7 +30,7 @@ module _ (env : Env) (mix : ℕ → ℕ → ℕ → ℕ) (L : Type 0) where
       put_by env mix L core has.ghost has.all has.inv.whole c op of (has.inv.batches c)
 
   -- all that is in range, and each batch sound
-  pub in_range : (events : List Event) → IsAdmitted env.config.kind events → IsInRange {M = L} env (run_of mix env events).core
+  pub in_range : (events : List Event) → IsAdmitted events → IsInRange {M = L} env (run_of mix env events).core
   in_range events admitted =
       let has = has_inv env mix L events admitted in
       let all = has.all in
@@ -55,11 +55,11 @@ module _ (env : Env) (mix : ℕ → ℕ → ℕ → ℕ) (L : Type 0) where
   sound-or None sound in_table = absurd sound
   sound-or (Some batch) sound in_table = (sound, in_table)
 
-  pub sound_before : (events : List Event) (c : ℕ) → IsAdmitted env.config.kind events → AreSound events c
+  pub sound_before : (events : List Event) (c : ℕ) → IsAdmitted events → AreSound events c
   sound_before events c admitted index =
       let before = take index events in
-      let first = (AllByRecursion-cut (IsAdmittedEvent env.config.kind) before (drop index events)
-      (subst (IsAdmitted env.config.kind) (sym (take-append-drop index events)) admitted)).0 in
+      let first = (AllByRecursion-cut IsAdmittedEvent before (drop index events)
+      (subst IsAdmitted (sym (take-append-drop index events)) admitted)).0 in
       let core : Core L = (run_of {M = L} mix env before).core in
       let stays = runs-in L mix env before in
       let batch = batch_room (local_of core c).doing (local_of core c).batch in

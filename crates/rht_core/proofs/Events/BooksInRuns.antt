@@ -152,7 +152,7 @@ module _ (env : Env) (mix : ℕ → ℕ → ℕ → ℕ) (L : Type 0) where
 
   -- ---- one event
 
-  event-says : (w : World L) (event : Event) → IsAdmittedEvent env.config.kind event → (has : HasBooks w)
+  event-says : (w : World L) (event : Event) → IsAdmittedEvent event → (has : HasBooks w)
       → (k : ℕ) → let after = kept env mix L w.core has.ghost event has.all has.inv in
       ViewSays (view_of (world_step mix w event) k) (outs env mix after.ghost k)
   event-says w Enroll may has k =
@@ -216,9 +216,9 @@ module _ (env : Env) (mix : ℕ → ℕ → ℕ → ℕ) (L : Type 0) where
         (let none = count_below-none (λ n. is_taken_by c Free) env.geometry.nodes (λ n l. refl) in omega (arith, none)),
       )
 
-  pub has_books : (events : List Event) → IsAdmitted env.config.kind events → HasBooks (run_of mix env events)
+  pub has_books : (events : List Event) → IsAdmitted events → HasBooks (run_of mix env events)
   has_books events admitted =
-      run_keeps_admitted L mix env.config.kind HasBooks
+      run_keeps_admitted L mix HasBooks
       (λ w event may has.
       let k = kept env mix L w.core has.ghost event has.all has.inv in
       record {

@@ -92,7 +92,7 @@ module _ (env : Env) (mix : ℕ → ℕ → ℕ → ℕ) where
         here : (ghost.table τ).place number ≡ Some j
 
       -- each event leaves it so that leaves the caller's section word
-      event-has : (w : World L) (event : Event) → IsAdmittedEvent env.config.kind event
+      event-has : (w : World L) (event : Event) → IsAdmittedEvent event
           → word_at env.geometry (world_step mix w event).core.words (Section c) ≡ word_at env.geometry w.core.words (Section c)
           → HasBucket w.core → HasBucket (world_step mix w event).core
       event-has w event may same has =
@@ -138,7 +138,7 @@ module _ (env : Env) (mix : ℕ → ℕ → ℕ → ℕ) where
 
     -- so the buckets that tables have behind the first events of a run stay where they are
     pub buckets-stay : (past rest : List Event) (G : Ghost) → Inv env mix L (run_of mix env past).core G
-        → IsAdmitted env.config.kind (past ++ rest)
+        → IsAdmitted (past ++ rest)
         → BucketsStay (words_before L mix env (past ++ rest)) c G (length past)
     buckets-stay past rest G inv admitted τ number j l since below here = (
       record {
@@ -169,8 +169,8 @@ module _ (env : Env) (mix : ℕ → ℕ → ℕ → ℕ) where
         Calm : ℕ → Type 0
         Calm i = IsUnturned env.geometry (words_before L mix env all) c (length past) i
 
-        past_admitted : IsAdmitted env.config.kind past
-        past_admitted = (AllByRecursion-cut (IsAdmittedEvent env.config.kind) past rest admitted).0
+        past_admitted : IsAdmitted past
+        past_admitted = (AllByRecursion-cut IsAdmittedEvent past rest admitted).0
 
         first : Has (run_of mix env past)
         first = record {
@@ -202,7 +202,7 @@ module _ (env : Env) (mix : ℕ → ℕ → ℕ → ℕ) where
                   let event = get_or all i Enroll in
                   let there = slice_get-get_or all i Enroll low in
                   let next = run_of-next L mix env all i event there in
-                  let may = AllByRecursion-get_or (IsAdmittedEvent env.config.kind) all i Enroll tt admitted in
+                  let may = AllByRecursion-get_or IsAdmittedEvent all i Enroll tt admitted in
                   let more : length past + suc n ≡ suc i = omega arith in
                   let at_next : suc i ≡ i + 1 = omega arith in
                   let same = ap (λ (w : World L). word_at env.geometry w.core.words (Section c)) (sym next)

@@ -37,7 +37,7 @@ module _ (M : Type 0) where
       → does_nothing machine ≡ false
   begun_busy env c batch =
       begins_so M env c batch (λ call machine. does_nothing machine ≡ false) (λ port. refl) (λ port owner once. refl)
-      (λ port. refl) (λ port owner. refl) (λ port owner new single. refl) refl refl (λ own has. refl) (λ from limit. refl)
+      (λ port. refl) (λ port owner. refl) (λ port owner new. refl) refl refl (λ own has. refl) (λ from limit. refl)
 
   -- it goes on without a reply, or has one and is idle
   abbrev pub Ends : Doing M × Option Reply → Type 0

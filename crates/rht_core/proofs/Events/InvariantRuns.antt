@@ -278,10 +278,10 @@ module _ (env : Env) (mix : ℕ → ℕ → ℕ → ℕ) where
       pub inv : Inv env mix L core ghost
       pub all : AllIn L mix env core
 
-    pub has_inv : (events : List Event) → IsAdmitted env.config.kind events
+    pub has_inv : (events : List Event) → IsAdmitted events
         → HasInv (run_of {M = L} mix env events).core
     has_inv events admitted =
-        run_keeps_admitted L mix env.config.kind (λ (w : World L). HasInv w.core)
+        run_keeps_admitted L mix (λ (w : World L). HasInv w.core)
         (λ w event may has.
         let k = kept env mix L w.core has.ghost event has.all has.inv in
         record { ghost = k.ghost; inv = k.inv; all = event-all L mix env w event may has.all })

@@ -33,9 +33,7 @@ use Rattle.rht_callers.specs.declared.local.Doing.{Doing}
 use Rattle.rht_callers.specs.declared.local.Doing.TheVariants.{Idle, Finding, Binding, Releasing, Rebinding, Listing, Working, Counting, Tidying, Walking}
 use Rattle.rht_callers.specs.Locals.{fresh, does_nothing, machine_of, doing_plan, doing_after, owners_after, room_given, pairs_after, pairs_given, local_after, ending_of, doing_next, without_node, IsDoingOf, IsLocalOf}
 use Rattle.rht_core.specs.Laws.{IsDoingIn}
-use Rattle.rht_core.specs.Jobs.{listing_ending, node_ending, Job, finds, binds, releases, rebinds, lists, works, tidies, tidying, tidied, walks, walk_ending, walk_gone, counts, call_of, first_job, first_rebind, first_tidy, job_plan, job_after, job_next, job_of, told, held_of, IsFirstJob}
-use Rattle.rht_words.specs.declared.config.Kind.{Kind}
-use Rattle.rht_words.specs.declared.config.Kind.TheVariants.{Single, Listed}
+use Rattle.rht_core.specs.Jobs.{listing_ending, node_ending, Job, finds, binds, releases, rebinds, lists, works, tidies, tidying, tidied, walks, walk_ending, walk_gone, counts, call_of, first_job, first_tidy, job_plan, job_after, job_next, job_of, told, held_of, IsFirstJob}
 use Rattle.rht_release.specs.Release as release
 use Rattle.rht_release.specs.Rebind as rebind
 use Rattle.rht_move.specs.Work as work
@@ -137,16 +135,7 @@ pub first-of : (Now : Job → Type 0) (env : Env) (call : Call) (job : Job) → 
     → IsFirstJob env call job → Now job
 first-of Now env call job each (batch, is) = first-so Now (first_job env batch call) job (each batch) is
 
--- a rebind begins where the table has one owner for each port
-pub first_rebind-so : (Now : Job → Type 0) (env : Env) (port owner new : ℕ)
-    → Now (rebinds port owner new (rebind.first_state env port new)) → IfSome (first_rebind env port owner new env.config.kind) Now
-first_rebind-so Now env port owner new so = go env.config.kind
-  where
-    go : (kind : Kind) → IfSome (first_rebind env port owner new kind) Now
-    go Single = so
-    go Listed = tt
-
--- and a tidying with its caller's batch
+-- a tidying begins with its caller's batch
 pub first_tidy-so : (Now : Job → Type 0) (batch : Option BatchModel) → ((own : BatchModel) → Now (tidying (tidy.begun own)))
     → IfSome (first_tidy batch) Now
 first_tidy-so Now None so = tt
@@ -157,7 +146,6 @@ abbrev HoldsNothing : Job → Type 0
 HoldsNothing job = held_of job ≡ held.holds_nothing
 
 first_job-holds : (env : Env) (call : Call) (batch : Option BatchModel) → IfSome (first_job env batch call) HoldsNothing
-first_job-holds env (Rebind port owner new) batch = first_rebind-so HoldsNothing env port owner new refl
 first_job-holds env Tidy batch = first_tidy-so HoldsNothing batch (λ own. refl)
 first_job-holds env _ batch = refl
 
@@ -198,12 +186,7 @@ module _ {M : Type 0} where
       (λ port owner once. record { job = _; first = (batch, refl); does = refl; asked = refl })
       (λ port. record { job = _; first = (batch, refl); does = refl; asked = refl })
       (λ port owner. record { job = _; first = (batch, refl); does = refl; asked = refl })
-      (λ port owner new single. record {
-        job = _;
-        first = (batch, ap (first_rebind env port owner new) single);
-        does = refl;
-        asked = refl;
-      })
+      (λ port owner new. record { job = _; first = (batch, refl); does = refl; asked = refl })
       (record { job = _; first = (batch, refl); does = refl; asked = refl })
       (record { job = _; first = (batch, refl); does = refl; asked = refl })
       (λ own has. record { job = _; first = (batch, ap first_tidy has); does = refl; asked = refl })

@@ -154,7 +154,7 @@ module _ (env : Env) (mix : ℕ → ℕ → ℕ → ℕ) (L : Type 0) where
   begun-owns G c batch =
       begins_so L env c batch
       (λ call machine. OwnsNodes env mix c (nodes_in batch) G → OwnsNodes env mix c (nodes_held machine (batch_beside machine batch)) G)
-      (λ port is. is) (λ port owner once is. is) (λ port is. is) (λ port owner is. is) (λ port owner new single is. is)
+      (λ port is. is) (λ port owner once is. is) (λ port is. is) (λ port owner is. is) (λ port owner new is. is)
       (λ is. is) (λ is. is)
       (λ own has is. begun_owns env mix L c own G (subst (λ b. OwnsNodes env mix c (nodes_in b) G) has is)) (λ from limit is. is)
 

@@ -145,7 +145,7 @@ module _ (M : Type 0) where
         owner_in = admitted.1;
         at_in = tt;
       })
-      (λ port owner new single admitted. record {
+      (λ port owner new admitted. record {
         same_env = refl;
         same_caller = refl;
         port_in = admitted.0;
@@ -411,7 +411,7 @@ module _ (M : Type 0) (mix : ℕ → ℕ → ℕ → ℕ) (env : Env) where
             all.locals;
       }
 
-  pub event-all : (w : World M) (event : Event) → IsAdmittedEvent env.config.kind event → AllIn w.core
+  pub event-all : (w : World M) (event : Event) → IsAdmittedEvent event → AllIn w.core
       → AllIn (world_step mix w event).core
   event-all w Enroll admitted all = record {
     stays = stays-in M mix env w Enroll all.stays;
@@ -427,10 +427,10 @@ module _ (M : Type 0) (mix : ℕ → ℕ → ℕ → ℕ) (env : Env) where
       let after = step-all w.core c (planned_in w.core c) refl all in
       record { stays = stays-in M mix env w (Step c) all.stays; words = after.words; locals = after.locals }
 
-  pub runs-all : (events : List Event) → IsAdmitted env.config.kind events
+  pub runs-all : (events : List Event) → IsAdmitted events
       → AllIn (run_of mix env events).core
   runs-all events admitted =
-      run_keeps_admitted M mix env.config.kind (λ (w : World M). AllIn w.core) event-all (opening env)
+      run_keeps_admitted M mix (λ (w : World M). AllIn w.core) event-all (opening env)
       events admitted opens-all
 
   -- ---- who is enrolled
@@ -457,7 +457,7 @@ module _ (M : Type 0) (mix : ℕ → ℕ → ℕ → ℕ) (env : Env) where
 
 module _ (M : Type 0) (mix : ℕ → ℕ → ℕ → ℕ) where
   -- the operation that a caller plans is on a word
-  pub planned_now : (env : Env) (events : List Event) → IsAdmitted env.config.kind events → (c : ℕ) (op : Op)
+  pub planned_now : (env : Env) (events : List Event) → IsAdmitted events → (c : ℕ) (op : Op)
       → plan_of (local_of (run_of {M = M} mix env events).core c) ≡ Some op → IsPlannedIn env.geometry op
   planned_now env events admitted c op is =
       let all = runs-all M mix env events admitted in

@@ -2,7 +2,6 @@
 -- admitted event a run has reached them too.
 use Rattle.std.proofs.Common.{◌≡◌, ℕ, ◌<◌, ◌≤◌, Bool, true, List, [], ◌∷◌, ◌++◌, length, refl, sym, ap, ◌∙◌, subst, arith, lt-ltb}
 use Rattle.std.specs.Prelude.{Option, Some, None, nat_lt, cond, slice_index_or}
-use Rattle.std.specs.List.{AllByRecursion}
 use Rattle.std.proofs.lemmas.List.{get_or_read}
 use Rattle.rht_words.specs.declared.op.Op.{Op}
 use Rattle.rht_words.specs.declared.env.Env.{Env}
@@ -74,7 +73,7 @@ module _ (M : Type 0) (mix : ℕ → ℕ → ℕ → ℕ) where
   event-env core (Begin c call) = refl
   event-env core (Step c) = step-env core c (planned_in core c)
 
-  core_step-reached : (core : Core M) (event : Event) → IsAdmittedEvent core.env.config.kind event
+  core_step-reached : (core : Core M) (event : Event) → IsAdmittedEvent event
       → IsReached mix core
       → IsReached mix (core_step mix core event).0
   core_step-reached core event more reached =
@@ -86,16 +85,13 @@ module _ (M : Type 0) (mix : ℕ → ℕ → ℕ → ℕ) where
       ∙ ap (λ (k : Core M). (core_step mix k event).0) reached.same in
       record {
         events = events;
-        admitted =
-            subst (λ (e : Env). AllByRecursion (IsAdmittedEvent e.config.kind) events) env
-            (AllByRecursion-append (IsAdmittedEvent core.env.config.kind) reached.events (event ∷ [])
-            reached.admitted (more, tt));
+        admitted = AllByRecursion-append IsAdmittedEvent reached.events (event ∷ []) reached.admitted (more, tt);
         same = subst (λ (e : Env). (run_of {M = M} mix e events).core ≡ after) env same;
       }
 
   -- what has become of it by one more event
   pub IsReached-more : (core after : Core M) (event : Event) (stepped : Stepped)
-      → IsAdmittedEvent core.env.config.kind event → (after, stepped) ≡ core_step mix core event
+      → IsAdmittedEvent event → (after, stepped) ≡ core_step mix core event
       → IsReached mix core
       → IsReached mix after
   IsReached-more core after event stepped more is reached =

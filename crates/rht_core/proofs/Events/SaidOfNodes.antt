@@ -1,13 +1,11 @@
 -- What a release or a rebind says of the node that it has taken out: its answer says that there is one exactly where it hands one out as it
 -- ends. No other call takes one out.
-use Rattle.std.specs.Prelude.{◌==◌, IfSome}
+use Rattle.std.specs.Prelude.{IfSome}
 use Rattle.std.proofs.Common.{◌≡◌, ℕ, ◌+◌, [], ◌∷◌, ◌++◌, length, length-append, Bool, true, false, arith, Option, Some, None, refl, sym, ap, ◌∙◌, subst}
 use Rattle.rht_words.specs.declared.env.Env.{Env}
 use Rattle.rht_words.specs.declared.geometry.Geometry.{Geometry}
 use Rattle.rht_words.specs.declared.machine.Next.{Next}
 use Rattle.rht_words.specs.declared.machine.Next.TheVariants.{Go, Done}
-use Rattle.rht_words.specs.Links.{node_of}
-use Rattle.rht_words.specs.Ports.{owner_of}
 use Rattle.rht_words.proofs.Members.{one_if}
 use Rattle.rht_arena.specs.NewNode.{NewNodeModel, new_node_after}
 use Rattle.rht_chain.specs.Relink.{RelinkModel, relink_after}
@@ -19,6 +17,9 @@ use Rattle.rht_model.specs.Endings.{Ending, plain_ending}
 use Rattle.rht_model.specs.Replies.{takes_out, IsReplyTo}
 use Rattle.rht_release.specs.declared.found_port.FoundPort.{FoundPort}
 use Rattle.rht_release.specs.Seek.{SeekModel, seek_after}
+use Rattle.rht_release.specs.ListSearch.{search_after}
+use Rattle.rht_release.specs.declared.list_search.ListPlace.{ListPlace}
+use Rattle.rht_release.specs.declared.list_search.ListSearch.{ListSearch}
 use Rattle.rht_release.specs.Release as release
 use Rattle.rht_release.specs.declared.release.ReleaseAt.{ReleaseAt}
 use Rattle.rht_release.specs.declared.release.ReleaseAt.TheVariants as releasing
@@ -32,7 +33,7 @@ use Rattle.rht_callers.specs.declared.local.Doing.TheVariants.{Idle, Finding, Bi
 use Rattle.rht_callers.specs.Batches.{nodes_in, node_out, IsBatchIn, with_out, out_of}
 use Rattle.rht_callers.specs.Locals.{fresh, does_nothing}
 use Rattle.rht_core.specs.Jobs.{Job, finds, binds, lists, releases, rebinds, works, tidies, walks, counts, call_of, first_job, job_of, job_next, job_after, node_ending, told, held_of, IsFirstJob}
-use Rattle.rht_core.proofs.Events.JobsOfCallers.{first_rebind-so, first_tidy-so, same_call, first-of}
+use Rattle.rht_core.proofs.Events.JobsOfCallers.{first_tidy-so, same_call, first-of}
 use Rattle.rht_core.proofs.Events.TakenOut.{taken_with}
 use Rattle.rht_ghost.proofs.Theory.Answering.{outs_of, IsReplied}
 
@@ -84,15 +85,11 @@ sought-says port owner seek Go = tt
 sought-says port owner seek (Done None) = refl
 sought-says port owner seek (Done (Some found)) = tt
 
-compared-says : (port owner : ℕ) (found : FoundPort) (node : ℕ) (before : Option ℕ) (equal : Bool)
-    → SaysTaken (releases port owner (release.owner_compared found node before equal))
-compared-says port owner found node before true = tt
-compared-says port owner found node before false = tt
-
-followed-says : (port owner : ℕ) (found : FoundPort) (node : ℕ) (next : Option ℕ)
-    → SaysTaken (releases port owner (release.list_followed found node next))
-followed-says port owner found node None = tt
-followed-says port owner found node (Some next) = tt
+searched-says : (port owner : ℕ) (found : FoundPort) (search : ListSearch) (next : Next (Option ListPlace))
+    → SaysTaken (releases port owner (release.searched found search next))
+searched-says port owner found search Go = tt
+searched-says port owner found search (Done None) = tt
+searched-says port owner found search (Done (Some place)) = tt
 
 cut-says : (port owner : ℕ) (g : Geometry) (found : FoundPort) (node link : ℕ) (before : Option ℕ)
     → SaysTaken (releases port owner (release.cut_or_chain g found node link before))
@@ -124,10 +121,8 @@ release-says : (mix : ℕ → ℕ → ℕ → ℕ) (env : Env) (port owner : ℕ
 release-says mix env port owner releasing.Opening old says = tt
 release-says mix env port owner (releasing.Seeking seek) old says =
     sought-says port owner (seek_after mix port seek old).0 (seek_after mix port seek old).1
-release-says mix env port owner (releasing.Owner found node before) old says =
-    compared-says port owner found node before (owner_of old == owner)
-release-says mix env port owner (releasing.ListLink found node) old says =
-    followed-says port owner found node (node_of env.geometry.nodes old)
+release-says mix env port owner (releasing.Searching found search) old says =
+    let next = search_after env.geometry owner search old in searched-says port owner found next.0 next.1
 release-says mix env port owner (releasing.LinkBehind found node before) old says = cut-says port owner env.geometry found node old before
 release-says mix env port owner (releasing.CuttingOut found node before link) old says = tt
 release-says mix env port owner (releasing.ChainLink found second) old says = unlink-says port owner env.geometry found old second
@@ -251,7 +246,6 @@ longer env (Some batch) (Some node) is =
 
 -- a call says nothing of a node at its beginning
 first_says : (env : Env) (call : Call) (batch : Option BatchModel) → IfSome (first_job env batch call) SaysTaken
-first_says env (Rebind port owner new) batch = first_rebind-so SaysTaken env port owner new tt
 first_says env Tidy batch = first_tidy-so SaysTaken batch (λ own. tt)
 first_says env _ batch = tt
 

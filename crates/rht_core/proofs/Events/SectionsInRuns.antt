@@ -266,9 +266,9 @@ module _ (env : Env) (mix : ℕ → ℕ → ℕ → ℕ) where
     event_right core (Begin c call) has right = begin_right core c call (beginning_in core c call) has refl right
     event_right core (Step c) has right = step_right core c has (planned_in core c) refl right
 
-    has_right : (events : List Event) → IsAdmitted env.config.kind events → HasRight (run_of {M = L} mix env events).core
+    has_right : (events : List Event) → IsAdmitted events → HasRight (run_of {M = L} mix env events).core
     has_right events admitted =
-        run_keeps_admitted L mix env.config.kind (λ (w : World L). HasRight w.core)
+        run_keeps_admitted L mix (λ (w : World L). HasRight w.core)
         (λ w event may before.
         let k = kept env mix L w.core before.has.ghost event before.has.all before.has.inv in
         record {
@@ -284,11 +284,11 @@ module _ (env : Env) (mix : ℕ → ℕ → ℕ → ℕ) where
         })
 
     -- the section word of each caller is odd where its call has its section open, and even where it hasn't, or in no call
-    pub section_parity : (events : List Event) → IsAdmitted env.config.kind events → AreRight (run_of {M = L} mix env events).core
+    pub section_parity : (events : List Event) → IsAdmitted events → AreRight (run_of {M = L} mix env events).core
     section_parity events admitted = (has_right events admitted).right
 
     -- so that of a caller in no call is even
-    pub in_no_section : (events : List Event) → IsAdmitted env.config.kind events → (c : ℕ) → c < env.geometry.callers
+    pub in_no_section : (events : List Event) → IsAdmitted events → (c : ℕ) → c < env.geometry.callers
         → is_idle (local_of (run_of {M = L} mix env events).core c) ≡ true
         → IsInNoSection env.geometry (run_of {M = L} mix env events).core.words c
     in_no_section events admitted c below idle =
@@ -304,8 +304,8 @@ sections M mix env events c admitted below idle = in_no_section env mix M events
 pub own_sections : (M : Type 0) (mix : ℕ → ℕ → ℕ → ℕ) → OwnSections M mix
 own_sections M mix env events c d did admitted low recorded on =
     let before = take did.index events in
-    let first = (AllByRecursion-cut (IsAdmittedEvent env.config.kind) before (drop did.index events)
-    (subst (IsAdmitted env.config.kind) (sym (take-append-drop did.index events)) admitted)).0 in
+    let first = (AllByRecursion-cut IsAdmittedEvent before (drop did.index events)
+    (subst IsAdmitted (sym (take-append-drop did.index events)) admitted)).0 in
     let core : Core M = (run_of mix env before).core in
     let has = has_inv env mix M before first in
     let of = step_of env mix M core has.ghost c did.op has.all has.inv recorded.plan in

@@ -49,7 +49,7 @@ module _ (M : Type 0) where
       → IsDoingOf env machine
   begins-of env c batch =
       begins_so M env c batch (λ call machine. IsDoingOf env machine) (λ port. refl) (λ port owner once. refl)
-      (λ port. refl) (λ port owner. refl) (λ port owner new single. refl) refl refl (λ own has. refl) (λ from limit. refl)
+      (λ port. refl) (λ port owner. refl) (λ port owner new. refl) refl refl (λ own has. refl) (λ from limit. refl)
 
   -- a tidying stays in its table
   tidied-of : (env : Env) (m : TidyModel) (came : BatchModel × TidyAt × Next Reply) → IsDoingOf {M = M} env (Tidying m)

@@ -81,23 +81,21 @@ module _ (env : Env) (mix : ℕ → ℕ → ℕ → ℕ) where
         → Knows c (job_of machine) M G
     begun_knows c batch call machine M G is knows owns =
         begins_so L env c batch (λ asked first. Knows c (job_of first) M G)
-        (λ port. record { built = tt; knowing = record { only = knows.only; means = knows.means }; fits = tt })
-        (λ port owner once. record { built = tt; knowing = record { only = knows.only; means = knows.means }; fits = (refl, refl) })
-        (λ port. record { built = tt; knowing = record { only = knows.only; means = knows.means }; fits = refl })
-        (λ port owner. record { built = tt; knowing = record { only = knows.only; means = knows.means }; fits = tt })
-        (λ port owner new single. record {
-          built = single;
+        (λ port. record { knowing = record { only = knows.only; means = knows.means }; fits = tt })
+        (λ port owner once. record { knowing = record { only = knows.only; means = knows.means }; fits = (refl, refl) })
+        (λ port. record { knowing = record { only = knows.only; means = knows.means }; fits = refl })
+        (λ port owner. record { knowing = record { only = knows.only; means = knows.means }; fits = tt })
+        (λ port owner new. record {
           knowing = record { only = knows.only; means = knows.means };
           fits = (refl, refl);
         })
-        (record { built = tt; knowing = record { only = knows.only; means = knows.means }; fits = tt })
-        (record { built = tt; knowing = record { only = knows.only; means = knows.means }; fits = tt })
+        (record { knowing = record { only = knows.only; means = knows.means }; fits = tt })
+        (record { knowing = record { only = knows.only; means = knows.means }; fits = tt })
         (λ own has. record {
-          built = tt;
           knowing = record { only = knows.only; means = knows.means };
           fits = begun_owns c own G (subst (λ b. OwnsNodes env mix c (nodes_in b) G) has owns);
         })
-        (λ from limit. record { built = tt; knowing = record { only = knows.only; means = knows.means }; fits = tt })
+        (λ from limit. record { knowing = record { only = knows.only; means = knows.means }; fits = tt })
         call machine is
 
     -- a caller in no call has nothing

@@ -228,7 +228,7 @@ module _ (env : Env) (mix : ℕ → ℕ → ℕ → ℕ) where
               (λ i slot low. absurd (omega (arith, low)));
         }
 
-    event_tables : (events : List Event) (event : Event) → IsAdmittedEvent env.config.kind event → HasTables events
+    event_tables : (events : List Event) (event : Event) → IsAdmittedEvent event → HasTables events
         → HasTables (events ++ event ∷ [])
     event_tables events event may has =
         let more = events ++ event ∷ [] in
@@ -278,20 +278,20 @@ module _ (env : Env) (mix : ℕ → ℕ → ℕ → ℕ) where
         }
 
     -- by induction over the events
-    pub has_tables : (events : List Event) → IsAdmitted env.config.kind events → HasTables events
+    pub has_tables : (events : List Event) → IsAdmitted events → HasTables events
     has_tables =
-        induct_by_last (λ es. IsAdmitted env.config.kind es → HasTables es)
+        induct_by_last (λ es. IsAdmitted es → HasTables es)
         (λ none. opening_tables)
         (λ es event each all.
-        let parts = AllByRecursion-cut (IsAdmittedEvent env.config.kind) es (event ∷ []) all in
+        let parts = AllByRecursion-cut IsAdmittedEvent es (event ∷ []) all in
         event_tables es event parts.1.0 (each parts.0))
 
     -- and behind the first events of a longer run
-    pub tables_at : (events : List Event) (n : ℕ) → n ≤ length events → IsAdmitted env.config.kind events → (c : ℕ) → c < 16
+    pub tables_at : (events : List Event) (n : ℕ) → n ≤ length events → IsAdmitted events → (c : ℕ) → c < 16
         → (front : HasTables (take n events)) × TablesStayed (words_before L mix env events) c front.ghost n
     tables_at events n low admitted c few =
-        let parts = AllByRecursion-cut (IsAdmittedEvent env.config.kind) (take n events) (drop n events)
-        (subst (IsAdmitted env.config.kind) (sym (take-append-drop n events)) admitted) in
+        let parts = AllByRecursion-cut IsAdmittedEvent (take n events) (drop n events)
+        (subst IsAdmitted (sym (take-append-drop n events)) admitted) in
         let front = has_tables (take n events) parts.0 in
         let stayed = subst (TablesStayed (words_before L mix env (take n events)) c front.ghost) (length-take-le n events low)
         (front.stayed c few) in (

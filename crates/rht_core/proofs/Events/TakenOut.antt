@@ -1,20 +1,19 @@
 -- The node that a call has taken out of a port's list, by its state. Its caller knows that it has taken it out; and where the state has it only
 -- behind an operation, the caller hadn't taken it out before. It is the one that the call hands out as it ends.
 use Rattle.std.proofs.Common.{◌≡◌, ℕ, Bool, true, false, Option, Some, None, List, ◌∷◌, ◌⊎◌, refl, sym, ap, ◌∙◌, subst, inl, inr}
-use Rattle.std.specs.Prelude.{if◌then◌else◌, ◌==◌, IfSome}
+use Rattle.std.specs.Prelude.{if◌then◌else◌, IfSome}
 use Rattle.rht_words.specs.declared.env.Env.{Env}
 use Rattle.rht_words.specs.declared.geometry.Geometry.{Geometry}
 use Rattle.rht_words.specs.declared.machine.Next.{Next}
 use Rattle.rht_words.specs.declared.machine.Next.TheVariants.{Go, Done}
-use Rattle.rht_words.specs.Links.{link_of, node_of}
+use Rattle.rht_words.specs.Links.{link_of}
 use Rattle.rht_words.specs.Members.{In}
-use Rattle.rht_words.specs.Ports.{owner_of}
 use Rattle.rht_words.proofs.Memory.{Memory}
 use Rattle.rht_words.proofs.Members.{in-middle}
 use Rattle.rht_arena.specs.NewNode.{NewNodeModel, new_node_after}
 use Rattle.rht_chain.specs.Relink.{RelinkModel, has_relinked, relink_after}
 use Rattle.rht_model.specs.declared.history.Call.{Call}
-use Rattle.rht_model.specs.declared.history.Call.TheVariants.{Rebind, Tidy}
+use Rattle.rht_model.specs.declared.history.Call.TheVariants.{Tidy}
 use Rattle.rht_model.specs.declared.history.Reply.{Reply}
 use Rattle.rht_model.specs.Endings.{Ending, plain_ending}
 use Rattle.rht_find.specs.Find as find
@@ -30,6 +29,9 @@ use Rattle.rht_callers.specs.declared.local.Doing.TheVariants.{Releasing, Rebind
 use Rattle.rht_release.specs.FoundPort.{relink_of}
 use Rattle.rht_release.specs.declared.found_port.FoundPort.{FoundPort}
 use Rattle.rht_release.specs.Seek.{SeekModel, seek_after}
+use Rattle.rht_release.specs.ListSearch.{search_after}
+use Rattle.rht_release.specs.declared.list_search.ListPlace.{ListPlace}
+use Rattle.rht_release.specs.declared.list_search.ListSearch.{ListSearch}
 use Rattle.rht_release.specs.Release as release
 use Rattle.rht_release.specs.declared.release.ReleaseAt.{ReleaseAt}
 use Rattle.rht_release.specs.declared.release.ReleaseAt.TheVariants as releasing
@@ -42,14 +44,14 @@ use Rattle.rht_grace.specs.Batch.{BatchModel}
 use Rattle.rht_core.specs.Jobs.{Job, finds, binds, lists, releases, rebinds, works, tidies, walks, counts, first_job, job_next, job_after, job_of, listing_ending, node_ending, walk_ending, walk_gone, told, tidying, tidied, IsFirstJob}
 use Rattle.rht_ghost.proofs.Theory.Ghosts.{Ghost, Taken, Behind, seat_of, taken_is}
 use Rattle.rht_ghost.proofs.Theory.Wholes.{Whole}
-use Rattle.rht_ghost.proofs.Theory.Knowns.{KnownList}
+use Rattle.rht_ghost.proofs.Theory.Knowns.{KnownList, IsOwnersNode}
 use Rattle.rht_ghost.proofs.Theory.Knowledge.{Knowing}
 use Rattle.rht_ghost.proofs.Theory.Steps.{Holding}
 use Rattle.rht_ghost.proofs.Pieces.Relinks.{unstored}
 use Rattle.rht_release.proofs.ReleaseKnowledge.{known_of_release, known_relinking}
 use Rattle.rht_release.proofs.RebindKnowledge.{known_of_rebind, known_replacing}
 use Rattle.rht_core.proofs.Machines.JobSteps.{JobKnows}
-use Rattle.rht_core.proofs.Events.JobsOfCallers.{first_rebind-so, first_tidy-so, first-of}
+use Rattle.rht_core.proofs.Events.JobsOfCallers.{first_tidy-so, first-of}
 
 -- ---- by the state
 
@@ -59,8 +61,7 @@ when taken node = if taken then Some node else None
 abbrev pub taken_at_release : ReleaseAt → Option ℕ
 taken_at_release releasing.Opening = None
 taken_at_release (releasing.Seeking seek) = None
-taken_at_release (releasing.Owner found node before) = None
-taken_at_release (releasing.ListLink found node) = None
+taken_at_release (releasing.Searching found search) = None
 taken_at_release (releasing.LinkBehind found node before) = None
 taken_at_release (releasing.CuttingOut found node before link) = None
 taken_at_release (releasing.ChainLink found second) = None
@@ -79,11 +80,14 @@ abbrev pub taken_at_rebind : RebindAt → Option ℕ
 taken_at_rebind (rebinding.Filling new) = None
 taken_at_rebind (rebinding.Opening node) = None
 taken_at_rebind (rebinding.Seeking node seek) = None
-taken_at_rebind (rebinding.Owner node found) = None
+taken_at_rebind (rebinding.Searching node found search) = None
+taken_at_rebind (rebinding.LinkBehind node found old before) = None
+taken_at_rebind (rebinding.OwnListLink node found old before link) = None
+taken_at_rebind (rebinding.Swapping node found old before) = None
 taken_at_rebind (rebinding.ChainLink node found) = None
 taken_at_rebind (rebinding.Link node found link) = None
 taken_at_rebind (rebinding.Replacing node found relink) = when (has_relinked found.before relink.at) found.node
-taken_at_rebind (rebinding.Unlocking node table unlock) = None
+taken_at_rebind (rebinding.Unlocking table unlock end) = taken_at_end end
 taken_at_rebind (rebinding.Closing end) = taken_at_end end
 taken_at_rebind (rebinding.Giving give) = None
 
@@ -104,7 +108,6 @@ taken_with (Some job) = taken_of job
 
 -- at its beginning a call has taken none
 first-untaken : (env : Env) (call : Call) (batch : Option BatchModel) → IfSome (first_job env batch call) (λ job. taken_of job ≡ None)
-first-untaken env (Rebind port owner new) batch = first_rebind-so (λ job. taken_of job ≡ None) env port owner new refl
 first-untaken env Tidy batch = first_tidy-so (λ job. taken_of job ≡ None) batch (λ own. refl)
 first-untaken env _ batch = refl
 
@@ -185,9 +188,10 @@ module _ (env : Env) (mix : ℕ → ℕ → ℕ → ℕ) (c : ℕ) where
     rebind_taken port owner new h (rebinding.Replacing node found relink) k is =
         by_store found.node (has_relinked found.before relink.at)
         (rebind_relinking port owner new node h M G whole found (has_relinked found.before relink.at) k) is
+    rebind_taken port owner new h (rebinding.Unlocking table unlock (ends.Rebound removed)) k is =
+        ap G.node (sym (some-node removed is)) ∙ taken_is c (G.node removed) k.means.bucket.took.taken
     rebind_taken port owner new h (rebinding.Closing (ends.Rebound removed)) k is =
         ap G.node (sym (some-node removed is)) ∙ taken_is c (G.node removed) k.means.bucket.taken
-    rebind_taken port owner new h (rebinding.Closing (ends.Absent node)) k is = absurd (cc)
     rebind_taken port owner new h _ k is = absurd (cc)
 
     pub taken_known : (job : Job) → JobKnows env mix c job M G → taken_of job ≡ Some n → G.node n ≡ Taken c
@@ -208,6 +212,14 @@ module _ (env : Env) (mix : ℕ → ℕ → ℕ → ℕ) (c : ℕ) where
     stored_now node stored (inl (on, taken)) same = inl (rw on (ap Some same))
     stored_now node stored (inr (off, untaken)) same = inr (λ taken. untaken (ap G.node same ∙ taken))
 
+    -- a node of the port's list wasn't taken out
+    listed-untaken : (port owner first : ℕ) (behind : List ℕ) → G.bound port ≡ first ∷ behind → (node : ℕ) (before : Option ℕ)
+        → IsOwnersNode M (first ∷ behind) node before owner → node ≡ n → G.node n ≡ Taken c → ⊥
+    listed-untaken port owner first behind bound node before is same taken =
+        let among = is.stands.among in
+        let there : In node (first ∷ behind) = subst (In node) (sym among.split) (in-middle node among.front among.rear) in
+        bound-untaken M G whole port first behind bound node there (ap G.node same ∙ taken)
+
     none-some : (was : Option ℕ) → None ≡ Some n → WasOrNot was
     none-some was is = absurd (cc)
 
@@ -216,14 +228,11 @@ module _ (env : Env) (mix : ℕ → ℕ → ℕ → ℕ) (c : ℕ) where
     release_sought seek (Done None) = refl
     release_sought seek (Done (Some found)) = refl
 
-    release_compared : (found : FoundPort) (node : ℕ) (before : Option ℕ) (equal : Bool)
-        → taken_at_release (release.owner_compared found node before equal) ≡ None
-    release_compared found node before true = refl
-    release_compared found node before false = refl
-
-    release_followed : (found : FoundPort) (node : ℕ) (next : Option ℕ) → taken_at_release (release.list_followed found node next) ≡ None
-    release_followed found node None = refl
-    release_followed found node (Some next) = refl
+    release_searched : (found : FoundPort) (search : ListSearch) (next : Next (Option ListPlace))
+        → taken_at_release (release.searched found search next) ≡ None
+    release_searched found search Go = refl
+    release_searched found search (Done None) = refl
+    release_searched found search (Done (Some place)) = refl
 
     release_cut : (g : Geometry) (found : FoundPort) (node link : ℕ) (before : Option ℕ)
         → taken_at_release (release.cut_or_chain g found node link before) ≡ None
@@ -256,18 +265,14 @@ module _ (env : Env) (mix : ℕ → ℕ → ℕ → ℕ) (c : ℕ) where
     release_then port owner h releasing.Opening old k is = absurd (cc)
     release_then port owner h (releasing.Seeking seek) old k is =
         from_none _ None (release_sought (seek_after mix port seek old).0 (seek_after mix port seek old).1) is
-    release_then port owner h (releasing.Owner found node before) old k is =
-        from_none _ None (release_compared found node before (owner_of old == owner)) is
-    release_then port owner h (releasing.ListLink found node) old k is =
-        from_none _ None (release_followed found node (node_of env.geometry.nodes old)) is
+    release_then port owner h (releasing.Searching found search) old k is =
+        let next = search_after env.geometry owner search old in from_none _ None (release_searched found next.0 next.1) is
     release_then port owner h (releasing.LinkBehind found node before) old k is =
         from_none _ None (release_cut env.geometry found node old before) is
     release_then port owner h (releasing.CuttingOut found node before link) old k is =
         let in_list = k.means.bucket in
-        let among = in_list.means.is.stands.among in
-        let there : In node (found.node ∷ in_list.behind) = subst (In node) (sym among.split) (in-middle node among.front among.rear) in
         let same : node ≡ n = cc in
-        inr (λ taken. bound-untaken M G whole port found.node in_list.behind in_list.bound_to node there (ap G.node same ∙ taken))
+        inr (listed-untaken port owner found.node in_list.behind in_list.bound_to node (Some before) in_list.means.is same)
     release_then port owner h (releasing.ChainLink found second) old k is =
         from_none _ None (release_unlink env.geometry found old second) is
     release_then port owner h (releasing.SecondLink found second link) old k is =
@@ -294,9 +299,16 @@ module _ (env : Env) (mix : ℕ → ℕ → ℕ → ℕ) (c : ℕ) where
     rebind_sought node seek (Done None) = refl
     rebind_sought node seek (Done (Some found)) = refl
 
-    rebind_compared : (node : ℕ) (found : FoundPort) (equal : Bool) → taken_at_rebind (rebind.owner_compared node found equal) ≡ None
-    rebind_compared node found true = refl
-    rebind_compared node found false = refl
+    rebind_searched : (node : ℕ) (found : FoundPort) (search : ListSearch) (next : Next (Option ListPlace))
+        → taken_at_rebind (rebind.searched node found search next) ≡ None
+    rebind_searched node found search Go = refl
+    rebind_searched node found search (Done None) = refl
+    rebind_searched node found search (Done (Some place)) = refl
+
+    rebind_swapped : (node : ℕ) (found : FoundPort) (removed : ℕ) (before : Option ℕ)
+        → taken_at_rebind (rebind.swap_or_chain node found removed before) ≡ None
+    rebind_swapped node found removed None = refl
+    rebind_swapped node found removed (Some before) = refl
 
     rebind_replaced : (node : ℕ) (found : FoundPort) (relink : RelinkModel) (next : Next (Unit {0}))
         → taken_at_rebind (rebind.replaced node found relink next) ≡ Some n → found.node ≡ n
@@ -310,8 +322,15 @@ module _ (env : Env) (mix : ℕ → ℕ → ℕ → ℕ) (c : ℕ) where
     rebind_then port owner new h (rebinding.Opening node) old k is = absurd (cc)
     rebind_then port owner new h (rebinding.Seeking node seek) old k is =
         from_none _ None (rebind_sought node (seek_after mix port seek old).0 (seek_after mix port seek old).1) is
-    rebind_then port owner new h (rebinding.Owner node found) old k is =
-        from_none _ None (rebind_compared node found (owner_of old == owner)) is
+    rebind_then port owner new h (rebinding.Searching node found search) old k is =
+        let next = search_after env.geometry owner search old in from_none _ None (rebind_searched node found next.0 next.1) is
+    rebind_then port owner new h (rebinding.LinkBehind node found removed before) old k is = absurd (cc)
+    rebind_then port owner new h (rebinding.OwnListLink node found removed before link) old k is =
+        from_none _ None (rebind_swapped node found removed before) is
+    rebind_then port owner new h (rebinding.Swapping node found removed before) old k is =
+        let in_list = k.means.bucket in
+        let same : removed ≡ n = cc in
+        inr (listed-untaken port owner found.node in_list.behind in_list.bound_to removed (Some before) in_list.means.is same)
     rebind_then port owner new h (rebinding.ChainLink node found) old k is = absurd (cc)
     rebind_then port owner new h (rebinding.Link node found link) old k is =
         from_none _ None (release_begun env.geometry found (link_of node)) is
@@ -319,7 +338,7 @@ module _ (env : Env) (mix : ℕ → ℕ → ℕ → ℕ) (c : ℕ) where
         stored_now found.node (has_relinked found.before relink.at)
         (rebind_relinking port owner new node h M G whole found (has_relinked found.before relink.at) k)
         (rebind_replaced node found (relink_after relink).0 (relink_after relink).1 is)
-    rebind_then port owner new h (rebinding.Unlocking node table unlock) old k is = absurd (cc)
+    rebind_then port owner new h (rebinding.Unlocking table unlock end) old k is = inl is
     rebind_then port owner new h (rebinding.Closing (ends.Rebound removed)) old k is = inl is
     rebind_then port owner new h (rebinding.Closing (ends.Absent node)) old k is = absurd (cc)
     rebind_then port owner new h (rebinding.Giving give) old k is = absurd (cc)

@@ -8,7 +8,7 @@ use Rattle.rht_words.specs.declared.geometry.Geometry.{Geometry}
 use Rattle.rht_words.specs.declared.machine.Next.{Next}
 use Rattle.rht_words.specs.declared.machine.Next.TheVariants.{Go, Done}
 use Rattle.rht_model.specs.declared.history.Call.{Call}
-use Rattle.rht_model.specs.declared.history.Call.TheVariants.{Rebind, Tidy}
+use Rattle.rht_model.specs.declared.history.Call.TheVariants.{Tidy}
 use Rattle.rht_model.specs.declared.history.Reply.{Reply}
 use Rattle.rht_model.specs.declared.history.Reply.TheVariants.{Clear, Pending}
 use Rattle.rht_model.specs.Endings.{Ending}
@@ -23,7 +23,7 @@ use Rattle.rht_core.specs.Counts.{returned_by}
 use Rattle.rht_core.specs.Jobs.{Job, finds, binds, lists, releases, rebinds, works, tidies, walks, counts, call_of, first_job, IsFirstJob}
 use Rattle.rht_core.specs.Tidyings.{IsTidyPlace}
 use Rattle.rht_core.proofs.Machines.TidyRanges.{Came, giving-so, asking-so}
-use Rattle.rht_core.proofs.Events.JobsOfCallers.{first_rebind-so, first_tidy-so, first-of}
+use Rattle.rht_core.proofs.Events.JobsOfCallers.{first_tidy-so, first-of}
 use Rattle.rht_ghost.proofs.Theory.Steps.{by_test}
 
 -- a tidying that gives back has given back those before its place
@@ -63,7 +63,6 @@ begun_none batch = go (length batch.waiting) refl
         ap (λ (b : BatchModel × TidyAt). given_at b.1) (begun-some batch (omega (arith, some))) ∙ asked-none (first_odd batch.kept 0)
 
 first-given : (env : Env) (call : Call) (batch : Option BatchModel) → IfSome (first_job env batch call) (λ job. given_of job ≡ 0)
-first-given env (Rebind port owner new) batch = first_rebind-so (λ job. given_of job ≡ 0) env port owner new refl
 first-given env Tidy batch = first_tidy-so (λ job. given_of job ≡ 0) batch begun_none
 first-given env _ batch = refl
 

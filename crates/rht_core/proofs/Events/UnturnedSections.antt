@@ -140,7 +140,7 @@ module _ (env : Env) (mix : ℕ → ℕ → ℕ → ℕ) (L : Type 0) where
 
   -- ---- a section word that an event leaves
 
-  module _ (w : World L) (G : Ghost) (event : Event) (may : IsAdmittedEvent env.config.kind event) (all : AllIn L mix env w.core)
+  module _ (w : World L) (G : Ghost) (event : Event) (may : IsAdmittedEvent event) (all : AllIn L mix env w.core)
       (inv : Inv env mix L w.core G) (right : AreRight env mix L w.core) where
     abbrev core' : Core L
     core' = (world_step mix w event).core

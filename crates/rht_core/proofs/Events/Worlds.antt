@@ -10,7 +10,6 @@ use Rattle.std.proofs.Math.Seq.{take-append_seam, take-suc}
 use Rattle.std.proofs.lemmas.Option.{slice_get_within, get_or_from_slice_get}
 use Rattle.rht_words.specs.declared.op.Op.{Op}
 use Rattle.rht_words.specs.declared.env.Env.{Env}
-use Rattle.rht_words.specs.declared.config.Kind.{Kind}
 use Rattle.rht_words.specs.Operations.{old_of, applied}
 use Rattle.rht_words.proofs.EachElement.{AllByRecursion-append}
 use Rattle.rht_model.specs.declared.history.Call.{Call}
@@ -219,16 +218,16 @@ module _ (M : Type 0) (mix : ℕ → ℕ → ℕ → ℕ) where
   run_keeps P keeps w (event ∷ events) p = run_keeps P keeps (world_step mix w event) events (keeps w event p)
 
   -- the same where only admitted events keep it
-  pub run_keeps_admitted : (kind : Kind) (P : World M → Type 0)
-      → ((w : World M) (event : Event) → IsAdmittedEvent kind event → P w → P (world_step mix w event))
-      → (w : World M) (events : List Event) → IsAdmitted kind events → P w → P (run_from mix w events)
-  run_keeps_admitted kind P keeps w [] admitted p = p
-  run_keeps_admitted kind P keeps w (event ∷ events) admitted p =
-      run_keeps_admitted kind P keeps (world_step mix w event) events admitted.1 (keeps w event admitted.0 p)
+  pub run_keeps_admitted : (P : World M → Type 0)
+      → ((w : World M) (event : Event) → IsAdmittedEvent event → P w → P (world_step mix w event))
+      → (w : World M) (events : List Event) → IsAdmitted events → P w → P (run_from mix w events)
+  run_keeps_admitted P keeps w [] admitted p = p
+  run_keeps_admitted P keeps w (event ∷ events) admitted p =
+      run_keeps_admitted P keeps (world_step mix w event) events admitted.1 (keeps w event admitted.0 p)
 
   pub extends : Extends M mix
   extends env events event admitted more = record {
-    admitted = AllByRecursion-append (IsAdmittedEvent env.config.kind) events (event ∷ []) admitted
+    admitted = AllByRecursion-append IsAdmittedEvent events (event ∷ []) admitted
         (more, tt);
     world = run_of-push env events event;
   }

@@ -165,6 +165,7 @@ module _ (env : Env) (mix : ℕ → ℕ → ℕ → ℕ) (now c n : ℕ) (M M' :
         let seatless = sym (same_seat m) ∙ none in
         subst (λ link. Leads G' P' i link p) (sym (same m ChainLink (right.placed i m p was.1).among))
         (leads_then i m p (seatless_met m was.0 seatless) (right.leads i m p seatless was.1));
+    died_used = λ m t is. let was = dead_was m t is in kept_used m was.0 (right.died_used m t was.1);
   }
 
   -- ---- and so is since when nodes are no first ones

@@ -44,7 +44,7 @@ found_one (first ∷ others) reply some is = (first, is)
 below_bound : (made bound : ℕ) → made + 1 ≤ bound → made ≤ bound
 below_bound made bound few = omega (arith, few)
 
-module _ (L : Type 0) (mix : ℕ → ℕ → ℕ → ℕ) (env : Env) (events : List Event) (c : ℕ) (admitted : IsAdmitted env.config.kind events) where
+module _ (L : Type 0) (mix : ℕ → ℕ → ℕ → ℕ) (env : Env) (events : List Event) (c : ℕ) (admitted : IsAdmitted events) where
   abbrev r : Traced L
   r = traced_of mix env events
 

@@ -38,7 +38,7 @@ use Rattle.rht_ghost.proofs.Theory.Ghosts.{Ghost}
 use Rattle.rht_ghost.proofs.Theory.Steps.{mem, ghost_after, section_turns}
 use Rattle.rht_ghost.proofs.Theory.Knowledge.{ReadsFrom}
 use Rattle.rht_core.proofs.Events.Invariants.{Knows}
-use Rattle.rht_core.proofs.Events.JobsOfCallers.{first_rebind-so, first_tidy-so, same_call}
+use Rattle.rht_core.proofs.Events.JobsOfCallers.{first_tidy-so, same_call}
 use Rattle.rht_core.proofs.Machines.JobSteps.{JobIn}
 use Rattle.rht_ghost.proofs.Theory.Answering.{IsSaidOn}
 use Rattle.rht_core.proofs.Histories.Behind.{behind-more}
@@ -378,8 +378,6 @@ module _ (L : Type 0) (mix : ℕ → ℕ → ℕ → ℕ) (env : Env) where
         → IfSome (first_job env batch call) (λ job. JobLooks more core' placed' (then c) c (length events) [] (Some job))
     first-looks c low (calls.Find port) batch =
         record { low = low; begun = omega (arith, longer); means = tt; spent = omega arith; met = λ slot within. tt }
-    first-looks c low (calls.Rebind port owner new) batch =
-        first_rebind-so (λ job. JobLooks more core' placed' (then c) c (length events) [] (Some job)) env port owner new tt
     first-looks c low (calls.Walk from limit) batch = tt
     first-looks c low calls.Tidy batch =
         first_tidy-so (λ job. JobLooks more core' placed' (then c) c (length events) [] (Some job)) batch (λ own. tt)

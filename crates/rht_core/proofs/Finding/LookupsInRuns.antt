@@ -111,7 +111,7 @@ module _ (L : Type 0) (mix : ℕ → ℕ → ℕ → ℕ) (env : Env) where
             (trace_begin_other L mix r c call d other)
       ]
 
-  pub step-looks : (events : List Event) (c : ℕ) (plan : Option Op) → IsAdmitted kind events → (looking : AreLooking L mix env events (R events))
+  pub step-looks : (events : List Event) (c : ℕ) (plan : Option Op) → IsAdmitted events → (looking : AreLooking L mix env events (R events))
       → (turn : Turns L mix env events (Step c) looking)
       → planned_in (R events).world.core c ≡ plan → EachLooks L mix env events (Step c) looking turn
   step-looks events c None admitted looking turn is = λ d.
@@ -168,7 +168,7 @@ module _ (L : Type 0) (mix : ℕ → ℕ → ℕ → ℕ) (env : Env) where
 
   -- ---- what an event makes
 
-  module _ (events : List Event) (admitted : IsAdmitted kind events) (looking : AreLooking L mix env events (R events)) where
+  module _ (events : List Event) (admitted : IsAdmitted events) (looking : AreLooking L mix env events (R events)) where
     abbrev r : Traced L
     r = R events
 
@@ -224,7 +224,7 @@ module _ (L : Type 0) (mix : ℕ → ℕ → ℕ → ℕ) (env : Env) where
 
     -- ---- behind it
 
-    module _ (event : Event) (may : IsAdmittedEvent kind event) where
+    module _ (event : Event) (may : IsAdmittedEvent event) where
       abbrev core' : Core L
       core' = (world_step mix r.world event).core
 
@@ -241,7 +241,7 @@ module _ (L : Type 0) (mix : ℕ → ℕ → ℕ → ℕ) (env : Env) where
           subst (λ (w : World L). AreRight env mix L w.core)
           (run_of-push L mix env events event ∙ ap (λ (w : World L). world_step mix w event) (sym (world-traced_of L mix env events)))
           (section_parity env mix L (events ++ event ∷ [])
-          (AllByRecursion-push (IsAdmittedEvent kind) events event admitted may))
+          (AllByRecursion-push IsAdmittedEvent events event admitted may))
 
       leads : (c : ℕ) → c < env.geometry.callers → Leads env mix L core core' G c
       leads = event_leads env mix L core parity G placed.all placed.inv comes event
@@ -297,7 +297,7 @@ module _ (L : Type 0) (mix : ℕ → ℕ → ℕ → ℕ) (env : Env) where
 
   -- ---- runs
 
-  unfoldable pub event-looks : (events : List Event) (event : Event) → IsAdmitted kind events → IsAdmittedEvent kind event
+  unfoldable pub event-looks : (events : List Event) (event : Event) → IsAdmitted events → IsAdmittedEvent event
       → AreLooking L mix env events (R events) → AreLooking L mix env (events ++ event ∷ []) (traced_step mix (R events) event)
   unfolding next turn_at makes
   event-looks events event admitted may looking = record {
@@ -334,19 +334,19 @@ module _ (L : Type 0) (mix : ℕ → ℕ → ℕ → ℕ) (env : Env) where
         (λ low d below n there. absurd there);
   }
 
-  pub has_looks : (events : List Event) → IsAdmitted kind events → AreLooking L mix env events (R events)
+  pub has_looks : (events : List Event) → IsAdmitted events → AreLooking L mix env events (R events)
   has_looks =
-      induct_by_last (λ events. IsAdmitted kind events → AreLooking L mix env events (R events))
+      induct_by_last (λ events. IsAdmitted events → AreLooking L mix env events (R events))
       (λ none. opening-looks)
       (λ events event each all.
-      let parts = AllByRecursion-cut (IsAdmittedEvent kind) events (event ∷ []) all in
+      let parts = AllByRecursion-cut IsAdmittedEvent events (event ∷ []) all in
       subst (AreLooking L mix env (events ++ event ∷ [])) (sym (traced_of-push L mix env events event))
       (event-looks events event parts.0 parts.1.0 (each parts.0)))
 
   -- ---- what a look-up claims
 
   -- what a look-up answers while it closes its section was so
-  module _ (events : List Event) (c : ℕ) (low : c < env.geometry.callers) (admitted : IsAdmitted kind events) where
+  module _ (events : List Event) (c : ℕ) (low : c < env.geometry.callers) (admitted : IsAdmitted events) where
     abbrev looking : AreLooking L mix env events (R events)
     looking = has_looks events admitted
 

@@ -97,6 +97,7 @@ module _ (env : Env) (mix : ℕ → ℕ → ℕ → ℕ) (low now : ℕ) (M : Me
           of_port_left first j i p sits (right.of_port port first behind n j i p bound there sits (place_was i n p is).1);
       leads = λ i n p none is.
           let was = place_was i n p is in leads_left i (chain_of M n) p was.0 (right.leads i n p none was.1);
+      died_used = λ n t is. right.died_used n t is;
     }
 
     -- of ports

@@ -179,6 +179,7 @@ module _ (env : Env) (mix : ℕ → ℕ → ℕ → ℕ) (L : Type 0) where
       keys = λ i n m p is. absurd (cc);
       of_port = λ port first behind n j i p bound. absurd (cc);
       leads = λ i n p none is. absurd (cc);
+      died_used = λ n t is. absurd (cc);
     };
     deaths = λ n t among used none is. absurd (cc);
     said = λ n t among used. absurd (cc);
@@ -216,7 +217,7 @@ module _ (env : Env) (mix : ℕ → ℕ → ℕ → ℕ) (L : Type 0) where
 
     -- by what a caller plans, and by the event
     step_makes : (c : ℕ) (plan : Option Op) → planned_in w.core c ≡ plan
-        → IsAdmittedEvent env.config.kind (Step c)
+        → IsAdmittedEvent (Step c)
         → Makes (Step c)
     step_makes c None is may =
         let k = kept env mix L w.core placed.ghost (Step c) placed.all placed.inv in
@@ -260,7 +261,7 @@ module _ (env : Env) (mix : ℕ → ℕ → ℕ → ℕ) (L : Type 0) where
           apart = λ n is. (unmet c op of n plans is).1;
         }
 
-    pub event_makes : (event : Event) → IsAdmittedEvent env.config.kind event → Makes event
+    pub event_makes : (event : Event) → IsAdmittedEvent event → Makes event
     event_makes Enroll may =
         let k = kept env mix L w.core placed.ghost Enroll placed.all placed.inv in
         let e = enrolled env mix L w.core placed.ghost placed.all placed.inv in
@@ -293,13 +294,13 @@ module _ (env : Env) (mix : ℕ → ℕ → ℕ → ℕ) (L : Type 0) where
     event_makes (Step c) may = step_makes c (planned_in w.core c) refl may
 
     -- the ghost behind it is the invariant's
-    step-ghost : (c : ℕ) (plan : Option Op) (is : planned_in w.core c ≡ plan) (may : IsAdmittedEvent env.config.kind (Step c))
+    step-ghost : (c : ℕ) (plan : Option Op) (is : planned_in w.core c ≡ plan) (may : IsAdmittedEvent (Step c))
         → (step_makes c plan is may).ghost ≡ (kept env mix L w.core placed.ghost (Step c) placed.all placed.inv).ghost
     unfolding step_makes
     step-ghost c None is may = refl
     step-ghost c (Some op) is may = refl
 
-    pub event-ghost : (event : Event) (may : IsAdmittedEvent env.config.kind event)
+    pub event-ghost : (event : Event) (may : IsAdmittedEvent event)
         → (event_makes event may).ghost ≡ (kept env mix L w.core placed.ghost event placed.all placed.inv).ghost
     unfolding event_makes
     event-ghost Enroll may = refl

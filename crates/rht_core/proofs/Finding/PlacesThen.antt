@@ -89,13 +89,14 @@ module _ (env : Env) (mix : ℕ → ℕ → ℕ → ℕ) (now c : ℕ) (M : Memo
   stays G' made = (made.others (c + 1) (λ e. absurd (omega arith))).tables
 
   -- who has no seat by now has lost it now, or had none
-  dead_by : {G' : Ghost} {left P' : Places} → DeathsMove now G left G' P' → (n t : ℕ) → IsUsed (G'.node n) → seat_of (G'.node n) ≡ None
-      → P'.dead n ≡ Some t → DiesNow now G n t ⊎ HadDied G left n t
-  dead_by {left = left} deaths n t used seatless is = go (seat_of (G.node n)) refl
+  dead_by : {G' : Ghost} {left P' : Places} → PlacesRight env mix G left M now → DeathsMove now G left G' P' → (n t : ℕ)
+      → seat_of (G'.node n) ≡ None → P'.dead n ≡ Some t → DiesNow now G n t ⊎ HadDied G left n t
+  dead_by {left = left} of_left deaths n t seatless is = go (seat_of (G.node n)) refl
     where
       go : (seat : Option ℕ) → seat_of (G.node n) ≡ seat → DiesNow now G n t ⊎ HadDied G left n t
       go None before =
-          inr (record { used = deaths.used n used seatless; none = before; dead = sym (deaths.kept n before) ∙ is })
+          let dead = sym (deaths.kept n before) ∙ is in
+          inr (record { used = of_left.died_used n t dead; none = before; dead = dead })
       go (Some j) sits =
           inl (record { bucket = j; seat = sits; is_now = some-same now t (sym (deaths.died n j sits seatless) ∙ is) })
 
@@ -123,9 +124,9 @@ module _ (env : Env) (mix : ℕ → ℕ → ℕ → ℕ) (now c : ℕ) (M : Memo
         stay = stay;
         places = step.places;
         right_now = step.right_now;
-        deaths_now = λ deaths. deaths_after env mix now M G left M' G' step.places step.frame whole step.deaths
+        deaths_now = λ deaths. deaths_after env mix now M G left M' G' step.places step.frame whole step.deaths right_then
             (deaths_left env mix low now M G P deaths);
-        dead = λ n t used seatless is. had_left low n t (dead_by step.deaths n t used seatless is);
+        dead = λ n t used seatless is. had_left low n t (dead_by right_then step.deaths n t seatless is);
         looks = λ port seen since began Says Says' said absent seen_met state stood from known.
             look_stays env mix port seen since now M G left M' G' whole made.whole right_then low step stay.grow began Says Says' said absent
             state from (look_left env mix low now M G P whole port seen since Says state from known);

@@ -7,7 +7,7 @@ use Rattle.rht_words.specs.declared.machine.Next.TheVariants.{Go}
 use Rattle.rht_words.specs.Operations.{op_place}
 use Rattle.rht_words.proofs.EachElement.{AllByRecursion-push}
 use Rattle.rht_model.specs.declared.history.Call.{Call}
-use Rattle.rht_model.specs.declared.history.Call.TheVariants.{Find, Rebind, Walk, Tidy}
+use Rattle.rht_model.specs.declared.history.Call.TheVariants.{Find, Walk, Tidy}
 use Rattle.rht_model.specs.Endings.{Ending, plain_ending}
 use Rattle.rht_nest.specs.Reach.{ReachModel, reach_plan}
 use Rattle.rht_nest.specs.declared.reach.ReachAt.{ReachAt}
@@ -23,7 +23,7 @@ use Rattle.rht_core.specs.Jobs.{Job, finds, call_of, first_job, job_next, job_af
 use Rattle.rht_core.specs.Lookups.{IsLoad, IsReading, HasRead, ReadsInside}
 use Rattle.rht_core.specs.Traces.{Did}
 use Rattle.std.specs.Prelude.{IfSome, ◌⊎◌}
-use Rattle.rht_core.proofs.Events.JobsOfCallers.{first_rebind-so, first_tidy-so, each_goes, same_call, first-of}
+use Rattle.rht_core.proofs.Events.JobsOfCallers.{first_tidy-so, each_goes, same_call, first-of}
 use Rattle.rht_core.proofs.Tracing.TracedJobs.{Performs, LeadsOn, IsAtJob, jobs_keep_own}
 
 -- its operation loads a word, where its section is open and it isn't about to close it
@@ -109,7 +109,6 @@ module _ (mix : ℕ → ℕ → ℕ → ℕ) (env : Env) (c : ℕ) where
 
   first-now : (call : Call) (batch : Option BatchModel) → IfSome (first_job env batch call) (λ job. Now job [])
   first-now (Find port) batch = refl
-  first-now (Rebind port owner new) batch = first_rebind-so (λ job. Now job []) env port owner new tt
   first-now (Walk from limit) batch = tt
   first-now Tidy batch = first_tidy-so (λ job. Now job []) batch (λ own. tt)
   first-now _ batch = tt

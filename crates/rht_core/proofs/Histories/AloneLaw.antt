@@ -58,7 +58,7 @@ module _ (M : Type 0) (mix : ℕ → ℕ → ℕ → ℕ) (env : Env) where
 
   module _ (start : List Event) (c port : ℕ) (call : Call) (count : ℕ) (past : Past)
       (about : port_of call ≡ Some port) (quiet : IsQuiet M mix env start)
-      (admitted : IsAdmitted kind (start ++ call_events M mix c call count)) where
+      (admitted : IsAdmitted (start ++ call_events M mix c call count)) where
     -- the events of the call, and the run's up to its end
     abbrev events : List Event
     events = call_events M mix c call count
@@ -73,8 +73,8 @@ module _ (M : Type 0) (mix : ℕ → ℕ → ℕ → ℕ) (env : Env) where
     abbrev r : Traced M
     r = traced_of mix env after
 
-    earlier : IsAdmitted kind start
-    earlier = (AllByRecursion-cut (IsAdmittedEvent kind) start events admitted).0
+    earlier : IsAdmitted start
+    earlier = (AllByRecursion-cut IsAdmittedEvent start events admitted).0
 
     -- before it nobody was in a call, and all calls had ended
     none_begun : (d : ℕ) → (r0.world.books d).call ≡ None

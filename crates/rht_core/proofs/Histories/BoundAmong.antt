@@ -159,7 +159,7 @@ module _ (ports : List ℕ) where
 
 -- ---- runs
 
-module _ (M : Type 0) (mix : ℕ → ℕ → ℕ → ℕ) (env : Env) (events : List Event) (admitted : IsAdmitted env.config.kind events)
+module _ (M : Type 0) (mix : ℕ → ℕ → ℕ → ℕ) (env : Env) (events : List Event) (admitted : IsAdmitted events)
     (ports : List ℕ) (among : (c : ℕ) → AreCallsAmong ports ((run_of {M = M} mix env events).books c)) where
   abbrev r : Traced M
   r = traced_of mix env events
@@ -222,7 +222,7 @@ module _ (M : Type 0) (mix : ℕ → ℕ → ℕ → ℕ) (env : Env) (events : 
 
 -- the count of ports is at most the ports bound and the callers
 pub count-few : (M : Type 0) (mix : ℕ → ℕ → ℕ → ℕ) (env : Env) (events : List Event) (most : ℕ)
-    → IsAdmitted env.config.kind events
+    → IsAdmitted events
     → let words = (run_of {M = M} mix env events).core.words in
     ((many : ℕ) → AreBound (stands_for env.geometry words) many → many ≤ most)
     → word_at env.geometry words PortCount ≤ most + env.geometry.callers

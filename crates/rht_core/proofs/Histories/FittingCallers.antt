@@ -4,7 +4,6 @@ use Rattle.std.proofs.Common.{◌≡◌, ℕ, ◌<◌, ◌≤◌, List, [], ◌�
 use Rattle.std.specs.List.{AllByRecursion}
 use Rattle.std.proofs.lemmas.List.{length_push}
 use Rattle.rht_words.specs.declared.env.Env.{Env}
-use Rattle.rht_words.specs.declared.config.Kind.{Kind}
 use Rattle.rht_words.specs.Operations.{applied}
 use Rattle.rht_words.proofs.EachElement.{AllByRecursion-weaker}
 use Rattle.rht_model.specs.Multimap.{Multimap, Agree}
@@ -32,9 +31,6 @@ use Rattle.rht_core.proofs.Histories.CallerEntries.{IsEarly, early-more, IsTail,
 use Rattle.rht_core.proofs.Histories.CallEnds.{AreEnded}
 
 module _ (M : Type 0) (mix : ℕ → ℕ → ℕ → ℕ) (env : Env) where
-  abbrev kind : Kind
-  kind = env.config.kind
-
   abbrev R : List Event → Traced M
   R events = traced_of mix env events
 
@@ -155,7 +151,7 @@ module _ (M : Type 0) (mix : ℕ → ℕ → ℕ → ℕ) (env : Env) where
       (sym (world-traced_of M mix env events))
 
   -- an enrolling leaves the bindings
-  pub enroll-agree : (events : List Event) → IsAdmitted kind events
+  pub enroll-agree : (events : List Event) → IsAdmitted events
       → Agree (at_end (events ++ Enroll ∷ [])) (at_end events)
   enroll-agree events admitted p =
       let core = (R events).world.core in
@@ -173,7 +169,7 @@ module _ (M : Type 0) (mix : ℕ → ℕ → ℕ → ℕ) (env : Env) where
       ∙ sym (ap (λ (b : Multimap). b p) (end-is events))
 
   -- nor does it take away a page that is there
-  pub enroll-stays : (events : List Event) → IsAdmitted kind events
+  pub enroll-stays : (events : List Event) → IsAdmitted events
       → (c : ℕ) → Stays events Enroll (job_of (local_of (R events).world.core c).doing)
   enroll-stays events admitted c job is there =
       let core = (R events).world.core in

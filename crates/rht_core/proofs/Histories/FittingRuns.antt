@@ -84,7 +84,7 @@ module _ (M : Type 0) (mix : ℕ → ℕ → ℕ → ℕ) (env : Env) where
   -- ---- a call begins
 
   begin-fits : (events : List Event) (c : ℕ) (call : Call) (machine : Option (Doing M))
-      → IsAdmitted kind events
+      → IsAdmitted events
       → beginning_in (R events).world.core c call ≡ machine → IsFitting M mix env events (R events)
       → IsFitting M mix env (events ++ Begin c call ∷ []) (traced_step mix (R events) (Begin c call))
   begin-fits events c call None admitted is fitting =
@@ -156,7 +156,7 @@ module _ (M : Type 0) (mix : ℕ → ℕ → ℕ → ℕ) (env : Env) where
 
   -- ---- an operation
 
-  module _ (events : List Event) (c : ℕ) (op : Op) (admitted : IsAdmitted kind events)
+  module _ (events : List Event) (c : ℕ) (op : Op) (admitted : IsAdmitted events)
       (is : planned_in (R events).world.core c ≡ Some op) (fitting : IsFitting M mix env events (R events)) where
     abbrev r : Traced M
     r = R events
@@ -390,7 +390,7 @@ module _ (M : Type 0) (mix : ℕ → ℕ → ℕ → ℕ) (env : Env) where
                   (record { es = ends.es; ended = ends.ended; now = ends.own }));
             }
 
-  step-fits : (events : List Event) (c : ℕ) (op : Option Op) → IsAdmitted kind events
+  step-fits : (events : List Event) (c : ℕ) (op : Option Op) → IsAdmitted events
       → planned_in (R events).world.core c ≡ op
       → IsFitting M mix env events (R events) → IsFitting M mix env (events ++ Step c ∷ []) (traced_step mix (R events) (Step c))
   step-fits events c None admitted is fitting =
@@ -402,7 +402,7 @@ module _ (M : Type 0) (mix : ℕ → ℕ → ℕ → ℕ) (env : Env) where
       (λ d. there-same M mix env events (Step c) (ap (λ (w : World M). w.core.words) same) _) fitting
   step-fits events c (Some op) admitted is fitting = op-fits events c op admitted is fitting
 
-  event-fits : (events : List Event) (event : Event) → IsAdmitted kind events → IsFitting M mix env events (R events)
+  event-fits : (events : List Event) (event : Event) → IsAdmitted events → IsFitting M mix env events (R events)
       → IsFitting M mix env (events ++ event ∷ []) (traced_step mix (R events) event)
   event-fits events Enroll admitted fitting =
       quiet-fits M mix env events Enroll (enroll-agree M mix env events admitted) (λ d. refl) (λ d. refl) (enroll-stays M mix env events admitted) fitting
@@ -433,17 +433,17 @@ module _ (M : Type 0) (mix : ℕ → ℕ → ℕ → ℕ) (env : Env) where
         (fresh env) refl) (record { es = []; ended = tt; now = refl });
   }
 
-  runs-fit : (events : List Event) → IsAdmitted kind events → IsFitting M mix env events (R events)
+  runs-fit : (events : List Event) → IsAdmitted events → IsFitting M mix env events (R events)
   runs-fit =
-      induct_by_last (λ events. IsAdmitted kind events → IsFitting M mix env events (R events)) (λ none. opening-fits)
+      induct_by_last (λ events. IsAdmitted events → IsFitting M mix env events (R events)) (λ none. opening-fits)
       (λ events event each all.
-      let admitted = (AllByRecursion-cut (IsAdmittedEvent kind) events (event ∷ []) all).0 in
+      let admitted = (AllByRecursion-cut IsAdmittedEvent events (event ∷ []) all).0 in
       subst (IsFitting M mix env (events ++ event ∷ [])) (sym (traced_of-push M mix env events event))
       (event-fits events event admitted (each admitted)))
 
   -- ---- the history fits
 
-  module _ (events : List Event) (admitted : IsAdmitted kind events) (c : ℕ) (own : List Numbered) where
+  module _ (events : List Event) (admitted : IsAdmitted events) (c : ℕ) (own : List Numbered) where
     abbrev Change : Type 0
     Change = Any (ChangesBindings M mix env events) ((R events).traces c).steps
 

@@ -6,8 +6,6 @@ use Rattle.std.proofs.Common.{◌≡◌, ℕ, Bool, true, false, List, [], ◌�
 use Rattle.std.specs.Prelude.{Some}
 use Rattle.std.specs.List.{AllByRecursion, Contains}
 use Rattle.std.proofs.lemmas.List.Elements.{All-contains, All-from_recursion}
-use Rattle.rht_words.specs.declared.config.Kind.{Kind}
-use Rattle.rht_words.specs.declared.config.Kind.TheVariants.{Single, Listed}
 use Rattle.rht_words.specs.declared.env.Env.{Env}
 use Rattle.rht_words.specs.declared.machine.Next.{Next}
 use Rattle.rht_words.specs.declared.machine.Next.TheVariants.{Go, Done}
@@ -24,7 +22,7 @@ use Rattle.rht_move.specs.declared.work.WorkAt.{WorkAt}
 use Rattle.rht_move.specs.declared.work.WorkAt.TheVariants as works_at
 use Rattle.rht_core.specs.declared.event.Event.{Event}
 use Rattle.rht_grace.specs.Batch.{BatchModel}
-use Rattle.rht_core.specs.Jobs.{call_of, Job, works, first_rebind, first_tidy, job_next, job_after, IsFirstJob}
+use Rattle.rht_core.specs.Jobs.{call_of, Job, works, first_tidy, job_next, job_after, IsFirstJob}
 use Rattle.rht_core.specs.Runs.{IsAdmitted}
 use Rattle.rht_core.specs.Seen.{words_before}
 use Rattle.rht_core.specs.Traces.{Did, Past, traced_of, behind_call}
@@ -51,16 +49,11 @@ is_work Tidy = false
 is_work Count = false
 
 -- one begins with the work lock
-no_work : (env : Env) (port owner new : ℕ) (kind : Kind) (state : WorkAt) → first_rebind env port owner new kind ≡ Some (works state) → ⊥
-no_work env port owner new Single state is = cc
-no_work env port owner new Listed state is = cc
-
 no_tidy : (batch : Option BatchModel) (state : WorkAt) → first_tidy batch ≡ Some (works state) → ⊥
 no_tidy None state is = cc
 no_tidy (Some own) state is = cc
 
 pub first_work : (env : Env) (call : Call) (state : WorkAt) → IsFirstJob env call (works state) → works_at.WorkLock ≡ state
-first_work env (Rebind port owner new) state (batch, is) = absurd (no_work env port owner new env.config.kind state is)
 first_work env Work state (batch, is) = cc
 first_work env Tidy state (batch, is) = absurd (no_tidy batch state is)
 first_work env _ state (batch, is) = absurd (cc)
@@ -137,7 +130,7 @@ module _ (M : Type 0) (mix : ℕ → ℕ → ℕ → ℕ) (env : Env) (events : 
 
   -- ---- a call that is alone
 
-  module _ (past : Past) (admitted : IsAdmitted env.config.kind events)
+  module _ (past : Past) (admitted : IsAdmitted events)
       (ended : Contains ((traced_of {M = M} mix env events).traces c).past past)
       (alone : IsAloneDuring M mix env events c past) where
     all_still : IsStill past.steps (words_behind M mix env events (behind_call past))

@@ -162,7 +162,7 @@ IsBindTaken-call _ reply is = tt
 
 module _ (M : Type 0) (mix : ℕ → ℕ → ℕ → ℕ) (env : Env) where
   -- so where no bind of a caller is refused but for want of a node, no call is
-  for_node : (events : List Event) (c : ℕ) → IsAdmitted env.config.kind events
+  for_node : (events : List Event) (c : ℕ) → IsAdmitted events
       → let done = ((run_of {M = M} mix env events).books c).finished in
       AllByRecursion (λ (d : Finished). IsBindTaken d.call d.reply) done
       → AllByRecursion (λ (d : Finished). IsRefusedForNode d.call d.reply) done
@@ -182,7 +182,7 @@ module _ (M : Type 0) (mix : ℕ → ℕ → ℕ → ℕ) (env : Env) where
 
 module _ (M : Type 0) (mix : ℕ → ℕ → ℕ → ℕ) (env : Env) (auto : Bool) (commands : List (ℕ × Call)) (endings : List (List Ending))
     (events : List Event)
-    (admitted : IsAdmitted env.config.kind events) (workers : length endings ≡ env.config.callers)
+    (admitted : IsAdmitted events) (workers : length endings ≡ env.config.callers)
     (each : (c : ℕ) → c < env.config.callers
     → IsServing {M = M} (run_of mix env events) auto c (calls_of (c + 1) commands) (endings_by c endings)) where
   abbrev w : World M
@@ -295,7 +295,7 @@ module _ (M : Type 0) (mix : ℕ → ℕ → ℕ → ℕ) (env : Env) (auto : Bo
     front_taken : (m : ℕ) → m ≤ length events → ((i : ℕ) → i ≤ m → IsFewAt i)
         → AllByRecursion (λ (d : Finished). IsRefusedForNode d.call d.reply) ((run_of {M = M} mix env (take m events)).books 0).finished
     front_taken m within few =
-        let front = taken (IsAdmittedEvent kind) m events admitted in
+        let front = taken IsAdmittedEvent m events admitted in
         for_node M mix env (take m events) 0 front (one_caller M mix env (take m events) 0 front (is_for_one m within few))
 
     -- and those calls are the ones that had ended by then
@@ -305,7 +305,7 @@ module _ (M : Type 0) (mix : ℕ → ℕ → ℕ → ℕ) (env : Env) (auto : Bo
         (at_events M mix env events admitted 0).past
     taken_before (suc m) within few =
         let low : m ≤ length events = omega (arith, within) in
-        let front = taken (IsAdmittedEvent kind) m events admitted in
+        let front = taken IsAdmittedEvent m events admitted in
         let r : Traced M = traced_of mix env (take m events) in
         let early = (r.traces 0).past in
         let later = calls-later M mix env events 0 m low in
@@ -379,8 +379,7 @@ roomy_takes_all M mix config auto commands endings closed served roomy =
     let same = served.config_same in
     let (history, tells) = told M mix config auto commands endings closed served in
     subst (λ (k : Config). AreAllTaken k commands endings closed) same
-    (all_taken M mix env auto commands endings served.events
-    (subst (λ (k : Config). IsAdmitted k.kind served.events) (sym same) served.admitted)
+    (all_taken M mix env auto commands endings served.events served.admitted
     (served.workers ∙ ap (λ (k : Config). k.callers) (sym same))
     (λ c low. served.each c (subst (λ (k : Config). c < k.callers) same low))
     closed served.closed_is
@@ -414,9 +413,8 @@ one_worker_only M mix config auto commands endings closed served small enough =
     let env = served.env in
     let same = served.config_same in
     let (history, tells) = told M mix config auto commands endings closed served in
-    let admitted = subst (λ (k : Config). IsAdmitted k.kind served.events) (sym same) served.admitted in
     subst (λ (k : Config). AreAsModel k.kind (calls_of 1 commands) (endings_by 0 endings) closed) same
-    (as_model M mix env auto commands endings served.events admitted
+    (as_model M mix env auto commands endings served.events served.admitted
     (served.workers ∙ ap (λ (k : Config). k.callers) (sym same))
     (λ c low. served.each c (subst (λ (k : Config). c < k.callers) same low))
     (subst (λ (k : Config). IsSmallFor k (calls_of 1 commands)) (sym same) small)

@@ -334,7 +334,7 @@ module _ (M : Type 0) (mix : ℕ → ℕ → ℕ → ℕ) (env : Env) (events : 
       (λ ending. tt)
 
   -- so a work that has ended has freed the slot
-  module _ (admitted : IsAdmitted env.config.kind events) (past : Past)
+  module _ (admitted : IsAdmitted events) (past : Past)
       (ended : Contains ((traced_of {M = M} mix env events).traces own).past past) (is : past.done.call ≡ Work) where
     abbrev calls : List Past
     calls = ((traced_of {M = M} mix env events).traces own).past

@@ -152,7 +152,7 @@ module _ (env : Env) (c : ℕ) where
         subst (λ s. Contains s did) (sym all_steps) (Contains-append_right (chose.lock ∷ chose.sooner) later did there)
 
 module _ (M : Type 0) (mix : ℕ → ℕ → ℕ → ℕ) (env : Env) (events : List Event) (c : ℕ) (past : Past)
-    (admitted : IsAdmitted env.config.kind events)
+    (admitted : IsAdmitted events)
     (ended : Contains ((traced_of {M = M} mix env events).traces c).past past)
     (alone : IsAloneDuring M mix env events c past) where
   -- the words before the event with each number
@@ -260,7 +260,7 @@ module _ (M : Type 0) (mix : ℕ → ℕ → ℕ → ℕ) (env : Env) (events : 
     settled =
         let chose = saw.chose in
         let g = env.geometry in
-        let before = taken (IsAdmittedEvent env.config.kind) (behind_call past) events admitted in
+        let before = taken IsAdmittedEvent (behind_call past) events admitted in
         let rest = at_rest M mix env (take (behind_call past) events) before quiet in
         let few = (counted M mix env (take (behind_call past) events) before).few in
         let most = env.geometry.within.nodes_within.1 in
@@ -485,7 +485,7 @@ module _ (M : Type 0) (mix : ℕ → ℕ → ℕ → ℕ) (env : Env) (events : 
         let low_index = rising.0 in
         let g = env.geometry in
         let words = words_behind M mix env events index in
-        let before = taken (IsAdmittedEvent env.config.kind) index events admitted in
+        let before = taken IsAdmittedEvent index events admitted in
         let even = in_no_section env mix M (take index events) before other low (alone index other (omega (arith, from, low_index)) upto ne) in
         elim (cases_eq (word_at g words (Slot slot (LoadedSection other)) % 2) 0) [
           | inl kept_even ↦ inl kept_even

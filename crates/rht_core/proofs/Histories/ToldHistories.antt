@@ -118,7 +118,7 @@ fewer-below has c n low is =
 
 module _ (M : Type 0) (mix : ℕ → ℕ → ℕ → ℕ) (env : Env) (auto : Bool) (commands : List (ℕ × Call)) (endings : List (List Ending))
     (events : List Event)
-    (admitted : IsAdmitted env.config.kind events) (workers : length endings ≡ env.config.callers)
+    (admitted : IsAdmitted events) (workers : length endings ≡ env.config.callers)
     (each : (c : ℕ) → c < env.config.callers
     → IsServing {M = M} (run_of mix env events) auto c (calls_of (c + 1) commands) (endings_by c endings)) where
   abbrev w : World M
@@ -439,13 +439,12 @@ unfolding told_as told_of
 told M mix config auto commands endings closed served =
     let env = served.env in
     let same = served.config_same in
-    let admitted = subst (λ (k : Config). IsAdmitted k.kind served.events) (sym same) served.admitted in
-    let (history, fitting) = fits M mix env served.events admitted in (
+    let (history, fitting) = fits M mix env served.events served.admitted in (
       history_of history,
       record {
         told =
             told_as env.config config auto commands endings closed (history_of history) same
-            (told_of M mix env auto commands endings served.events admitted
+            (told_of M mix env auto commands endings served.events served.admitted
             (served.workers ∙ ap (λ (k : Config). k.callers) (sym same))
             (λ c low. served.each c (subst (λ (k : Config). c < k.callers) same low))
             history fitting closed served.closed_is);

@@ -128,15 +128,15 @@ module _ (M : Type 0) where
 
   -- ---- who is neither of the two is in no call, and has made none
 
-  admitted : IsAdmitted Single events
+  admitted : IsAdmitted events
   admitted = (
     tt,
     (
       tt,
       (
-        (lit≤ tt, lit≤ tt, tt),
+        (lit≤ tt, lit≤ tt),
         (
-          (lit≤ tt, lit≤ tt, tt),
+          (lit≤ tt, lit≤ tt),
           (
             lit≤ tt,
             (
@@ -165,7 +165,7 @@ module _ (M : Type 0) where
                                     lit≤ tt,
                                     (
                                       lit≤ tt,
-                                      ((lit≤ tt, lit≤ tt, tt), (lit≤ tt, (lit≤ tt, (lit≤ tt, (lit≤ tt, (lit≤ tt, (lit≤ tt, (lit≤ tt, tt)))))))),
+                                      ((lit≤ tt, lit≤ tt), (lit≤ tt, (lit≤ tt, (lit≤ tt, (lit≤ tt, (lit≤ tt, (lit≤ tt, (lit≤ tt, tt)))))))),
                                     ),
                                   ),
                                 ),

@@ -27,7 +27,6 @@ use Rattle.rht_release.specs.All as all_at
 use Rattle.rht_release.specs.declared.all.AllAt.{AllAt}
 use Rattle.rht_callers.specs.PortCounts.{count_plan_in}
 use Rattle.rht_core.specs.Jobs.{listing_ending, node_ending, Job, finds, binds, releases, rebinds, lists, works, tidies, tidying, tidied, walks, walk_ending, walk_gone, counts, call_of, job_plan, job_next, job_after, held_of, held_next}
-use Rattle.rht_words.specs.declared.config.Kind.TheVariants.{Single}
 use Rattle.rht_words.specs.Ports.{IsPort}
 use Rattle.rht_release.specs.Release.{IsReleaseAtIn}
 use Rattle.rht_release.specs.Release as release_at
@@ -124,38 +123,35 @@ pub record IsRebindingIn (env : Env) (new : ℕ) (state : RebindAt) : Type 0 whe
   pub new_in : new < 2 ^ 32
   pub at_in : IsRebindAtIn env state
 
--- What is said of a job by its machine: that it is one for tables of this kind, that all it names is the table's, and that what its state
--- keeps fits its port and its owner. Of a tidying it is said which nodes its caller has.
+-- What is said of a job by its machine: that all it names is the table's, and that what its state keeps fits its port and its owner. Of a
+-- tidying it is said which nodes its caller has.
 pub record JobFacts : Type 1 where
-  pub built : Type 0
   pub within : Type 0
   pub fits : Ghost → Type 0
 
 module _ (env : Env) (mix : ℕ → ℕ → ℕ → ℕ) (c : ℕ) where
-  -- a rebind is built for tables of one owner for each port alone, each other job for those of lists as well
+  -- what is said of each
   abbrev pub facts_of : Job → JobFacts
-  facts_of (finds port state) = record { built = Unit {0}; within = IsFindAtIn env state; fits = λ G. Unit {0} }
+  facts_of (finds port state) = record { within = IsFindAtIn env state; fits = λ G. Unit {0} }
   facts_of (binds port owner once state) =
-      record { built = Unit {0}; within = IsBindingIn env port owner state; fits = λ G. fits_bind env mix c port owner once state }
+      record { within = IsBindingIn env port owner state; fits = λ G. fits_bind env mix c port owner once state }
   facts_of (lists port room state) =
-      record { built = Unit {0}; within = IsListingIn env room state; fits = λ G. fits_all port room state }
+      record { within = IsListingIn env room state; fits = λ G. fits_all port room state }
   facts_of (releases port owner state) =
-      record { built = Unit {0}; within = IsReleaseAtIn env state; fits = λ G. fits_release env mix c port owner state }
+      record { within = IsReleaseAtIn env state; fits = λ G. fits_release env mix c port owner state }
   facts_of (rebinds port owner new state) = record {
-    built = env.config.kind ≡ Single;
     within = IsRebindingIn env new state;
     fits = λ G. fits_rebind env mix c port owner new state;
   }
-  facts_of (works state) = record { built = Unit {0}; within = IsWorkAtIn env state; fits = λ G. Unit {0} }
-  facts_of (tidies batch state) = record { built = Unit {0}; within = IsTidyingIn env.geometry batch state; fits = OwnsNodes env mix c (nodes_left batch state) }
-  facts_of (walks from limit room state) = record { built = Unit {0}; within = IsWalkAtIn env.geometry state; fits = λ G. Unit {0} }
-  facts_of counts = record { built = Unit {0}; within = Unit {0}; fits = λ G. Unit {0} }
+  facts_of (works state) = record { within = IsWorkAtIn env state; fits = λ G. Unit {0} }
+  facts_of (tidies batch state) = record { within = IsTidyingIn env.geometry batch state; fits = OwnsNodes env mix c (nodes_left batch state) }
+  facts_of (walks from limit room state) = record { within = IsWalkAtIn env.geometry state; fits = λ G. Unit {0} }
+  facts_of counts = record { within = Unit {0}; fits = λ G. Unit {0} }
 
   abbrev pub JobIn : Job → Type 0
   JobIn job = (facts_of job).within
 
   pub record JobKnows (job : Job) (M : Memory) (G : Ghost) : Type 0 where
-    pub built : (facts_of job).built
     pub knowing : Knowing env mix c (held_of job) (known_of job) M G
     pub fits : (facts_of job).fits G
 
@@ -199,7 +195,6 @@ module _ (env : Env) (mix : ℕ → ℕ → ℕ → ℕ) (c : ℕ) where
   pub JobKnows-rely : (job : Job) (M M' : Memory) (G G' : Ghost) → Whole env mix M G → G'.from c ≡ G.from c → Rely env mix c M G M' G'
       → JobKnows job M G → JobKnows job M' G'
   JobKnows-rely job M M' G G' whole from rely knows = record {
-    built = knows.built;
     knowing = Knowing-rely env mix c M M' G G' (held_of job) (known_of job) whole from rely knows.knowing;
     fits = fits-rely job M M' G G' rely knows.fits;
   }
@@ -213,7 +208,7 @@ module _ (env : Env) (mix : ℕ → ℕ → ℕ → ℕ) (c : ℕ) where
         → FindMoved env mix c port words G all whole low state r
         → JobStepOf words G (job_plan env c (finds port state)) (finds port state) (job_next (finds port) plain_ending r)
     finds_so port state (next, Go) step =
-        step-map env mix (λ M G' w k. record { built = tt; knowing = k; fits = tt }) step
+        step-map env mix (λ M G' w k. record { knowing = k; fits = tt }) step
     finds_so port state (next, Done reply) step =
         step-map env mix (λ M G' w k. record { knowing = k; leaves = tt }) step
 
@@ -222,7 +217,7 @@ module _ (env : Env) (mix : ℕ → ℕ → ℕ → ℕ) (c : ℕ) where
         → JobStepOf words G (job_plan env c (binds port owner once state)) (binds port owner once state)
         (job_next (binds port owner once) plain_ending r)
     binds_so port owner once state (next, Go) step =
-        step-map env mix (λ M G' w k. record { built = tt; knowing = k.knowing; fits = k.fits }) step
+        step-map env mix (λ M G' w k. record { knowing = k.knowing; fits = k.fits }) step
     binds_so port owner once state (next, Done reply) step =
         step-map env mix (λ M G' w k. record { knowing = k; leaves = tt }) step
 
@@ -232,7 +227,7 @@ module _ (env : Env) (mix : ℕ → ℕ → ℕ → ℕ) (c : ℕ) where
         → JobStepOf words G (job_plan env c (lists port room state)) (lists port room state)
         (job_next (lists port after) (listing_ending after) r)
     lists_so port room roomy state after (next, Go) step =
-        step-map env mix (λ M' G' w k. record { built = tt; knowing = k.knowing; fits = k.fits }) step
+        step-map env mix (λ M' G' w k. record { knowing = k.knowing; fits = k.fits }) step
     lists_so port room roomy state after (next, Done done) step =
         step-map env mix (λ M' G' w k. record { knowing = k; leaves = tt }) step
 
@@ -241,19 +236,19 @@ module _ (env : Env) (mix : ℕ → ℕ → ℕ → ℕ) (c : ℕ) where
         → JobStepOf words G (job_plan env c (releases port owner state)) (releases port owner state)
         (job_next (releases port owner) node_ending r)
     releases_so port owner state (next, Go) step =
-        step-map env mix (λ M G' w k. record { built = tt; knowing = k.knowing; fits = k.fits }) step
+        step-map env mix (λ M G' w k. record { knowing = k.knowing; fits = k.fits }) step
     releases_so port owner state (next, Done end) step =
         let after = held.ended_with (plain end.0) in
         step-map env mix (λ M G' w k. record { knowing = nothing_known env mix c after end.1 M G' k; leaves = tt }) step
 
-    rebinds_so : env.config.kind ≡ Single → (port owner new : ℕ) (state : RebindAt)
+    rebinds_so : (port owner new : ℕ) (state : RebindAt)
         (r : RebindAt × Next (Reply × Option ℕ))
         → RebindMoved env mix c port owner new words G state r
         → JobStepOf words G (job_plan env c (rebinds port owner new state)) (rebinds port owner new state)
         (job_next (rebinds port owner new) node_ending r)
-    rebinds_so single port owner new state (next, Go) step =
-        step-map env mix (λ M G' w k. record { built = single; knowing = k.knowing; fits = k.fits }) step
-    rebinds_so single port owner new state (next, Done end) step =
+    rebinds_so port owner new state (next, Go) step =
+        step-map env mix (λ M G' w k. record { knowing = k.knowing; fits = k.fits }) step
+    rebinds_so port owner new state (next, Done end) step =
         let after = held.ended_with (plain end.0) in
         step-map env mix (λ M G' w k. record { knowing = nothing_known env mix c after end.1 M G' k; leaves = tt }) step
 
@@ -261,14 +256,14 @@ module _ (env : Env) (mix : ℕ → ℕ → ℕ → ℕ) (c : ℕ) where
         → Step env mix c Work words G (work_at.plan_at env c state) (held_of (works state)) (work_holds r) (WorkNext env mix c r)
         → JobStepOf words G (job_plan env c (works state)) (works state) (job_next works plain_ending r)
     works_so state (next, Go) step =
-        step-map env mix (λ M G' w k. record { built = tt; knowing = k; fits = tt }) step
+        step-map env mix (λ M G' w k. record { knowing = k; fits = tt }) step
     works_so state (next, Done reply) step =
         step-map env mix (λ M G' w k. record { knowing = k; leaves = tt }) step
 
     tidies_so : (batch : BatchModel) (state : TidyAt) (came : Came) → TidyMoved env mix c words G (tidy_at.plan_at env.geometry batch state) came
         → JobStepOf words G (job_plan env c (tidies batch state)) (tidies batch state) (job_next tidying plain_ending (tidied came))
     tidies_so batch state (next, after, Go) step =
-        step-map env mix (λ M G' w k. record { built = tt; knowing = k.knowing; fits = k.owns }) step
+        step-map env mix (λ M G' w k. record { knowing = k.knowing; fits = k.owns }) step
     tidies_so batch state (next, after, Done reply) step =
         step-map env mix (λ M G' w k. record { knowing = k.knowing; leaves = k.owns }) step
 
@@ -277,7 +272,7 @@ module _ (env : Env) (mix : ℕ → ℕ → ℕ → ℕ) (c : ℕ) where
         → JobStepOf words G (job_plan env c (walks from limit room state)) (walks from limit room state)
         (job_next (walks from limit after) (walk_ending after) r)
     walks_so from limit room state after (next, Go) step =
-        step-map env mix (λ M G' w k. record { built = tt; knowing = k; fits = tt }) step
+        step-map env mix (λ M G' w k. record { knowing = k; fits = tt }) step
     walks_so from limit room state after (next, Done reply) step =
         step-map env mix (λ M G' w k. record { knowing = k; leaves = tt }) step
 
@@ -299,9 +294,9 @@ module _ (env : Env) (mix : ℕ → ℕ → ℕ → ℕ) (c : ℕ) where
         releases_so port owner state (release_at.after_at mix env port owner state (old_of words (release_at.plan_at env c state)))
         (release_step env mix c port owner low words G all whole state within (record { knowing = knows.knowing; fits = knows.fits }))
     job_step (rebinds port owner new state) within knows =
-        rebinds_so knows.built port owner new state
+        rebinds_so port owner new state
         (rebind_at.after_at mix env port owner state (old_of words (rebind_at.plan_at env c state)))
-        (rebind_step env mix c port owner new knows.built within.new_in low words G all whole state within.at_in
+        (rebind_step env mix c port owner new within.new_in low words G all whole state within.at_in
         (record { knowing = knows.knowing; fits = knows.fits }))
     job_step (works state) within knows =
         works_so state (work_at.after_at mix env state (old_of words (work_at.plan_at env c state)))

@@ -114,6 +114,7 @@ replacing-tableless node found false = no_table refl refl refl refl
 
 rebind-tableless : (state : RebindAt) → HoldsNoTable (held_of_rebind state)
 rebind-tableless (rebinding.Replacing node found relink) = replacing-tableless node found (has_relinked found.before relink.at)
+rebind-tableless (rebinding.Unlocking table unlock (ends.Rebound removed)) = no_table refl refl refl refl
 rebind-tableless (rebinding.Closing (ends.Rebound removed)) = no_table refl refl refl refl
 rebind-tableless _ = no_table refl refl refl refl
 
@@ -152,6 +153,7 @@ replacing-unraised node found true = refl
 
 rebind-unraised : (state : RebindAt) → (held_of_rebind state).raised ≡ false
 rebind-unraised (rebinding.Replacing node found relink) = replacing-unraised node found (has_relinked found.before relink.at)
+rebind-unraised (rebinding.Unlocking table unlock (ends.Rebound removed)) = refl
 rebind-unraised (rebinding.Closing (ends.Rebound removed)) = refl
 rebind-unraised _ = refl
 

@@ -100,7 +100,7 @@ module _ (env : Env) (mix : ℕ → ℕ → ℕ → ℕ) (words : List ℕ) (G :
   }
 
 -- what the words of a run stand for can be listed
-pub run_listable : (M : Type 0) (mix : ℕ → ℕ → ℕ → ℕ) (env : Env) (events : List Event) → IsAdmitted env.config.kind events
+pub run_listable : (M : Type 0) (mix : ℕ → ℕ → ℕ → ℕ) (env : Env) (events : List Event) → IsAdmitted events
     → IsListable env.geometry (run_of {M = M} mix env events).core.words
 run_listable M mix env events admitted =
     let has = has_inv env mix M events admitted in

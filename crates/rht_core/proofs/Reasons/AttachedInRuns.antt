@@ -46,7 +46,7 @@ module _ (M : Type 0) (mix : ℕ → ℕ → ℕ → ℕ) (env : Env) (events : 
 
   -- ---- what was seen is the cause, where each operation was recorded at its event
 
-  module _ (admitted : IsAdmitted env.config.kind events) where
+  module _ (admitted : IsAdmitted events) where
     abbrev IsRecordedHere : Did → Type 0
     IsRecordedHere did = IsRecorded M mix env events c did
 

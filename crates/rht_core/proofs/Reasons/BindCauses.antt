@@ -39,7 +39,7 @@ use Rattle.rht_core.proofs.Reasons.TablesWalked.{IsNoRaise}
 use Rattle.rht_core.proofs.Reasons.PagesMissed.{no_page-cause}
 
 module _ (M : Type 0) (mix : ℕ → ℕ → ℕ → ℕ) (env : Env) (events : List Event) (c : ℕ)
-    (admitted : IsAdmitted env.config.kind events) where
+    (admitted : IsAdmitted events) where
   -- the words before the event with each number
   abbrev words_at : ℕ → List ℕ
   words_at = words_before M mix env events

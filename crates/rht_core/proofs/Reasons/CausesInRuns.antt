@@ -42,7 +42,7 @@ use Rattle.rht_release.specs.Rebind as rebind
 use Rattle.rht_words.specs.Machines.{GoesOrEnds}
 use Rattle.rht_core.proofs.Tracing.RepliesInRuns.{Holds, Answered, runs-right}
 use Rattle.rht_core.proofs.Tracing.TracesAtEvents.{at_events}
-use Rattle.rht_core.proofs.Events.JobsOfCallers.{first_rebind-so, first_tidy-so, first-of}
+use Rattle.rht_core.proofs.Events.JobsOfCallers.{first_tidy-so, first-of}
 use Rattle.rht_core.proofs.Tracing.TracedJobs.{Performs, StandsIn, LeadsOn, IsEndedSo, jobs_keep_own}
 use Rattle.rht_move.specs.Work as work
 use Rattle.rht_core.proofs.Reasons.WorksSeen.{SawForWork, SawAtWork}
@@ -156,8 +156,7 @@ module _ (M : Type 0) (mix : ℕ → ℕ → ℕ → ℕ) (env : Env) (events : 
   first-saw : (call : Call) (batch : Option BatchModel) → IfSome (first_job env batch call) (λ job. JobSaw env c words_at mix job [])
   first-saw (Bind port owner once) batch = (λ node l. absurd (omega arith), (tt, tt))
   first-saw (Release port owner) batch = (tt, tt)
-  first-saw (Rebind port owner new) batch =
-      first_rebind-so (λ job. JobSaw env c words_at mix job []) env port owner new (λ node l. absurd (omega arith))
+  first-saw (Rebind port owner new) batch = λ node l. absurd (omega arith)
   first-saw Work batch = refl
   first-saw Tidy batch = first_tidy-so (λ job. JobSaw env c words_at mix job []) batch (first_tidy-saw env.geometry)
   first-saw _ batch = tt
@@ -167,7 +166,7 @@ module _ (M : Type 0) (mix : ℕ → ℕ → ℕ → ℕ) (env : Env) (events : 
   first_job-saw call job is = first-of (λ j. JobSaw env c words_at mix j []) env call job (first-saw call) is
 
   -- what the operations of each call that has ended have seen
-  pub past-saw : IsAdmitted env.config.kind events
+  pub past-saw : IsAdmitted events
       → AllByRecursion (λ (past : Past). SawOf env c words_at mix past.done.call past.done.reply past.steps)
       ((traced_of {M = M} mix env events).traces c).past
   past-saw admitted =
@@ -188,7 +187,7 @@ module _ (M : Type 0) (mix : ℕ → ℕ → ℕ → ℕ) (env : Env) (events : 
   walk-cause past from limit (Again table) right saw = saw
   walk-cause past from limit _ right saw = absurd right
 
-  module _ (admitted : IsAdmitted env.config.kind events) where
+  module _ (admitted : IsAdmitted events) where
     cause_of : (past : Past) (call : Call) (reply : Reply) → SawOf env c words_at mix call reply past.steps
         → IsReplyTo call reply → (call ≡ Tidy → HasTidied M mix env events c past)
         → ((from : Option Cursor) (limit : ℕ) → call ≡ Walk from limit

@@ -178,13 +178,13 @@ module _ (M : Type 0) (mix : ℕ → ℕ → ℕ → ℕ) (env : Env) (events : 
       }
 
   -- the words before each event do
-  words_fit_at : IsAdmitted env.config.kind events → (index : ℕ) → AllByRecursion IsWord (words_at index)
+  words_fit_at : IsAdmitted events → (index : ℕ) → AllByRecursion IsWord (words_at index)
   words_fit_at admitted index =
-      let parts = AllByRecursion-cut (IsAdmittedEvent env.config.kind) (take index events) (drop index events)
-      (subst (IsAdmitted env.config.kind) (sym (take-append-drop index events)) admitted) in
+      let parts = AllByRecursion-cut IsAdmittedEvent (take index events) (drop index events)
+      (subst IsAdmitted (sym (take-append-drop index events)) admitted) in
       words_fit M mix env (take index events) parts.0
 
-  module _ (admitted : IsAdmitted env.config.kind events) (steps : List Did) (did : Did) where
+  module _ (admitted : IsAdmitted events) (steps : List Did) (did : Did) where
     own_table : (slot caller : ℕ) (words : List ℕ) (G : Ghost) → Whole env mix (mem env mix words) G → words ≡ words_at did.index
         → G.slot slot ≡ SlotHeld caller → HasTakenSlot g slot steps → IsOwnTable M mix env events c slot steps did
     own_table slot caller words G whole now held taken = record {

@@ -47,7 +47,7 @@ use Rattle.rht_core.specs.Traces.{Did}
 use Rattle.rht_core.specs.ListedOwners.{is_owner_word, loads_owner, owner_loaded, owners_loaded, ListedOwners}
 use Rattle.rht_ghost.proofs.Theory.Steps.{mem}
 use Rattle.rht_release.proofs.AllSteps.{AllKnows, kept}
-use Rattle.rht_core.proofs.Events.JobsOfCallers.{first_rebind-so, first_tidy-so, each_goes, same_call, first-of}
+use Rattle.rht_core.proofs.Events.JobsOfCallers.{first_tidy-so, each_goes, same_call, first-of}
 use Rattle.rht_core.proofs.Tracing.TracedJobs.{Performs, LeadsOn, jobs_keep}
 
 -- ---- one operation more
@@ -207,7 +207,6 @@ module _ (mix : ℕ → ℕ → ℕ → ℕ) (env : Env) where
   -- at its beginning a listing has loaded none, and its room is empty
   first-keeps : (call : Call) (batch : Option BatchModel) → IfSome (first_job env batch call) (λ job. Keeps job [])
   first-keeps (All port) batch = refl
-  first-keeps (Rebind port owner new) batch = first_rebind-so (λ job. Keeps job []) env port owner new tt
   first-keeps Tidy batch = first_tidy-so (λ job. Keeps job []) batch (λ own. tt)
   first-keeps _ batch = tt
 

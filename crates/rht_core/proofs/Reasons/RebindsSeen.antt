@@ -1,7 +1,7 @@
 -- What a rebind has seen, while it makes a new node and for want of one; of its other replies nothing is
 -- shown.
-use Rattle.std.proofs.Common.{ℕ, Bool, true, false, List, [], ◌∷◌, ◌++◌, map, refl}
-use Rattle.std.specs.Prelude.{Option, Some, None, ◌==◌}
+use Rattle.std.proofs.Common.{ℕ, List, [], ◌∷◌, ◌++◌, map, refl}
+use Rattle.std.specs.Prelude.{Option, Some, None}
 use Rattle.rht_words.specs.declared.env.Env.{Env}
 use Rattle.rht_words.specs.declared.machine.Next.{Next}
 use Rattle.rht_words.specs.declared.machine.Next.TheVariants.{Go, Done}
@@ -13,6 +13,9 @@ use Rattle.rht_chain.specs.Relink.{RelinkModel, relink_after}
 use Rattle.rht_arena.proofs.NodesSeen.{SawAllBelow}
 use Rattle.rht_bind.specs.Growing.{made}
 use Rattle.rht_release.specs.Seek.{SeekModel, seek_after}
+use Rattle.rht_release.specs.ListSearch.{search_after}
+use Rattle.rht_release.specs.declared.list_search.ListPlace.{ListPlace}
+use Rattle.rht_release.specs.declared.list_search.ListSearch.{ListSearch}
 use Rattle.rht_core.specs.Jobs.{rebinds}
 use Rattle.rht_core.specs.Traces.{Did, performed_of}
 use Rattle.rht_release.specs.declared.found_port.FoundPort.{FoundPort}
@@ -21,7 +24,6 @@ use Rattle.rht_release.specs.declared.rebind.RebindAt.{RebindAt}
 use Rattle.rht_release.specs.declared.rebind.RebindAt.TheVariants as rebinds_at
 use Rattle.rht_release.specs.declared.rebind.RebindEnd.{RebindEnd}
 use Rattle.rht_release.specs.declared.rebind.RebindEnd.TheVariants as ends
-use Rattle.rht_words.specs.Ports.{owner_of}
 use Rattle.rht_words.specs.Machines.{GoesOrEnds}
 use Rattle.rht_core.proofs.Tracing.TracedJobs.{Performs}
 use Rattle.rht_core.proofs.Reasons.NewNodesSeen.{SawNew, SawMade, new-saw}
@@ -37,11 +39,14 @@ module _ (env : Env) where
   SawAtRebind (rebinds_at.Filling new) steps = SawNew env new.at steps
   SawAtRebind (rebinds_at.Opening node) steps = Unit {0}
   SawAtRebind (rebinds_at.Seeking node seek) steps = Unit {0}
-  SawAtRebind (rebinds_at.Owner node found) steps = Unit {0}
+  SawAtRebind (rebinds_at.Searching node found search) steps = Unit {0}
+  SawAtRebind (rebinds_at.LinkBehind node found old before) steps = Unit {0}
+  SawAtRebind (rebinds_at.OwnListLink node found old before link) steps = Unit {0}
+  SawAtRebind (rebinds_at.Swapping node found old before) steps = Unit {0}
   SawAtRebind (rebinds_at.ChainLink node found) steps = Unit {0}
   SawAtRebind (rebinds_at.Link node found link) steps = Unit {0}
   SawAtRebind (rebinds_at.Replacing node found relink) steps = Unit {0}
-  SawAtRebind (rebinds_at.Unlocking node table unlock) steps = Unit {0}
+  SawAtRebind (rebinds_at.Unlocking table unlock end) steps = Unit {0}
   SawAtRebind (rebinds_at.Closing end) steps = Unit {0}
   SawAtRebind (rebinds_at.Giving give) steps = Unit {0}
 
@@ -61,10 +66,16 @@ module _ (env : Env) where
   rebind_sought-saw node seek (Done None) all = tt
   rebind_sought-saw node seek (Done (Some found)) all = tt
 
-  rebind_compared-saw : (node : ℕ) (found : FoundPort) (equal : Bool) (all : List Did)
-      → SawAtRebind (rebind.owner_compared node found equal) all
-  rebind_compared-saw node found true all = tt
-  rebind_compared-saw node found false all = tt
+  rebind_searched-saw : (node : ℕ) (found : FoundPort) (search : ListSearch) (next : Next (Option ListPlace)) (all : List Did)
+      → SawAtRebind (rebind.searched node found search next) all
+  rebind_searched-saw node found search Go all = tt
+  rebind_searched-saw node found search (Done None) all = tt
+  rebind_searched-saw node found search (Done (Some place)) all = tt
+
+  rebind_swapped-saw : (node : ℕ) (found : FoundPort) (old : ℕ) (before : Option ℕ) (all : List Did)
+      → SawAtRebind (rebind.swap_or_chain node found old before) all
+  rebind_swapped-saw node found old None all = tt
+  rebind_swapped-saw node found old (Some before) all = tt
 
   rebind_replaced-saw : (node : ℕ) (found : FoundPort) (relink : RelinkModel) (next : Next (Unit {0}))
       (all : List Did)
@@ -86,8 +97,10 @@ module _ (env : Env) where
   rebind-saw mix port owner new (rebinds_at.Seeking node seek) steps did does saw =
       rebind_sought-saw node (seek_after mix port seek did.old).0 (seek_after mix port seek did.old).1
       (steps ++ did ∷ [])
-  rebind-saw mix port owner new (rebinds_at.Owner node found) steps did does saw =
-      rebind_compared-saw node found (owner_of did.old == owner) (steps ++ did ∷ [])
+  rebind-saw mix port owner new (rebinds_at.Searching node found search) steps did does saw =
+      let next = search_after env.geometry owner search did.old in rebind_searched-saw node found next.0 next.1 (steps ++ did ∷ [])
+  rebind-saw mix port owner new (rebinds_at.OwnListLink node found old before link) steps did does saw =
+      rebind_swapped-saw node found old before (steps ++ did ∷ [])
   rebind-saw mix port owner new (rebinds_at.Replacing node found relink) steps did does saw =
       rebind_replaced-saw node found (relink_after relink).0 (relink_after relink).1 (steps ++ did ∷ [])
   rebind-saw mix port owner new (rebinds_at.Closing end) steps did does saw = rebind_closed-saw end (steps ++ did ∷ [])

@@ -1,6 +1,6 @@
 -- A release says that there is something to do for `work` by the one operation that lowers the count, for the table that it walked
 -- last, in which it found the port.
-use Rattle.std.proofs.Common.{◌≡◌, ◌≢◌, ◌⊎◌, ℕ, ◌<◌, ◌≤◌, ◌==◌, Bool, true, false, List, [], ◌∷◌, ◌++◌, min, append_assoc, refl, sym, ap, ◌∙◌, subst, inl, inr, arith}
+use Rattle.std.proofs.Common.{◌≡◌, ◌≢◌, ◌⊎◌, ℕ, ◌<◌, ◌≤◌, Bool, true, false, List, [], ◌∷◌, ◌++◌, min, append_assoc, refl, sym, ap, ◌∙◌, subst, inl, inr, arith}
 use Rattle.std.specs.Prelude.{Option, Some, None, IfSome, ◌-◌}
 use Rattle.std.specs.List.{AllByRecursion, Any}
 use Rattle.std.proofs.lemmas.List.Elements.{All-from_recursion}
@@ -11,10 +11,9 @@ use Rattle.rht_words.specs.declared.env.Env.{Env}
 use Rattle.rht_words.specs.declared.geometry.Geometry.{Geometry}
 use Rattle.rht_words.specs.declared.machine.Next.{Next}
 use Rattle.rht_words.specs.declared.machine.Next.TheVariants.{Go, Done}
-use Rattle.rht_words.specs.Links.{node_of, slot_of}
+use Rattle.rht_words.specs.Links.{slot_of}
 use Rattle.rht_words.specs.Machines.{GoesOrEnds}
 use Rattle.rht_words.specs.Places.{PortCount, Slot, FutureWord, ChainLink, ListLink, OwnerWord, place_of}
-use Rattle.rht_words.specs.Ports.{owner_of}
 use Rattle.rht_words.specs.Shapes.{unpacked, size_of}
 use Rattle.rht_words.proofs.EachElement.{AllByRecursion-push, AllByRecursion-cut, AllByRecursion-append, AllByRecursion-weaker, Any-append_left}
 use Rattle.rht_model.specs.declared.history.Reply.{Reply}
@@ -40,12 +39,16 @@ use Rattle.rht_chain.specs.declared.relink.RelinkAt.{RelinkAt}
 use Rattle.rht_chain.specs.declared.relink.RelinkAt.TheVariants as relinks
 use Rattle.rht_chain.specs.declared.unlock.Unlock.{Unlock}
 use Rattle.rht_release.specs.declared.found_port.FoundPort.{FoundPort}
+use Rattle.rht_release.specs.ListSearch.{search_plan, search_after}
+use Rattle.rht_release.specs.declared.list_search.ListPlace.{ListPlace}
+use Rattle.rht_release.specs.declared.list_search.ListSearch.{ListSearch}
+use Rattle.rht_release.specs.declared.list_search.ListSearch.TheVariants as searches
 use Rattle.rht_release.specs.declared.seek.SeekAt.{SeekAt}
 use Rattle.rht_release.specs.declared.seek.SeekAt.TheVariants as seeks
 use Rattle.rht_release.specs.Seek.{seek_plan_at, seek_after, bucket_or_early, early_or_none, located, found_or_future, probed, left, IsSeekAtIn}
 use Rattle.rht_release.specs.declared.release.ReleaseAt.{ReleaseAt}
 use Rattle.rht_release.specs.declared.release.ReleaseAt.TheVariants as at
-use Rattle.rht_release.specs.Release.{plan_at, after_at, sought, owner_compared, list_followed, cut_or_chain, unlink_or_promote, promoted, unlinked, removed_reply, kicks, IsReleaseAtIn}
+use Rattle.rht_release.specs.Release.{plan_at, after_at, sought, searched, cut_or_chain, unlink_or_promote, promoted, unlinked, removed_reply, kicks, IsReleaseAtIn}
 use Rattle.rht_move.specs.Choice.{is_sparse}
 use Rattle.rht_core.specs.Traces.{Did}
 use Rattle.rht_core.specs.Seen.{CameTo, IsNoShapeLoad, LastWalked, StaysInSection}
@@ -83,6 +86,10 @@ seek-none : (g : Geometry) (state : SeekAt) → IsNoSub (seek_plan_at g state)
 seek-none g (seeks.Locating locate) place value is = locate-none locate.geometry locate.table locate.at place value is
 seek-none g (seeks.Probing table shape probe) place value is = probe-none probe.at place value is
 seek-none g _ place value is = cc
+
+search-none : (g : Geometry) (search : ListSearch) → IsNoSub (search_plan g search)
+search-none g (searches.Owner node before) place value is = cc
+search-none g (searches.ListLink node) place value is = cc
 
 module _ (env : Env) where
   -- the operation doesn't lower the count of ports
@@ -169,8 +176,7 @@ module _ (env : Env) where
   abbrev SawAtRelease : ReleaseAt → List Did → Type 0
   SawAtRelease at.Opening steps = Unit {0}
   SawAtRelease (at.Seeking seek) steps = SawSeek seek.at steps
-  SawAtRelease (at.Owner found node before) steps = InFound found steps
-  SawAtRelease (at.ListLink found node) steps = InFound found steps
+  SawAtRelease (at.Searching found search) steps = InFound found steps
   SawAtRelease (at.LinkBehind found node before) steps = InFound found steps
   SawAtRelease (at.CuttingOut found node before link) steps = InFound found steps
   SawAtRelease (at.ChainLink found second) steps = InFound found steps
@@ -275,15 +281,15 @@ module _ (env : Env) where
 
   -- ---- in the port's list
 
-  compared-saw : (found : FoundPort) (node : ℕ) (before : Option ℕ) (equal : Bool) (all : List Did) → InFound found all
-      → SawAtRelease (owner_compared found node before equal) all
-  compared-saw found node before true all walked = walked
-  compared-saw found node before false all walked = walked
+  search_loads : (did : Did) (search : ListSearch) → did.op ≡ search_plan env.geometry search → IsAside env.geometry did
+  search_loads did (searches.Owner node before) is = node_loads env.geometry did env.geometry node OwnerWord is
+  search_loads did (searches.ListLink node) is = node_loads env.geometry did env.geometry node ListLink is
 
-  followed-saw : (found : FoundPort) (node : ℕ) (next : Option ℕ) (all : List Did) → InFound found all
-      → SawAtRelease (list_followed found node next) all
-  followed-saw found node None all walked = tt
-  followed-saw found node (Some next) all walked = walked
+  searched-saw : (found : FoundPort) (search : ListSearch) (next : Next (Option ListPlace)) (all : List Did) → InFound found all
+      → SawAtRelease (searched found search next) all
+  searched-saw found search Go all walked = walked
+  searched-saw found search (Done None) all walked = tt
+  searched-saw found search (Done (Some place)) all walked = walked
 
   behind-saw : (found : FoundPort) (node link : ℕ) (before : Option ℕ) (all : List Did) → InFound found all
       → SawAtRelease (cut_or_chain env.geometry found node link before) all
@@ -353,16 +359,13 @@ module _ (env : Env) where
       let next = seek_after mix port seek did.old in
       both (sought next.0 next.1) all (seek-saw mix port seek.geometry seek.at steps did within.at_in is saw.0)
       (AllByRecursion-push IsNoLowering steps did saw.1 (no_sub did _ is (seek-none seek.geometry seek.at)))
-  release-saw mix c port owner (at.Owner found node before) steps did within is saw =
-      both (owner_compared found node before (owner_of did.old == owner)) (steps ++ did ∷ [])
-      (compared-saw found node before (owner_of did.old == owner) (steps ++ did ∷ [])
-      (Walked-push env.geometry found.table found.shape steps did (node_loads env.geometry did env.geometry node OwnerWord is) saw.0))
-      (AllByRecursion-push IsNoLowering steps did saw.1 (no_sub did _ is (λ place value same. cc)))
-  release-saw mix c port owner (at.ListLink found node) steps did within is saw =
-      both (list_followed found node (node_of env.geometry.nodes did.old)) (steps ++ did ∷ [])
-      (followed-saw found node (node_of env.geometry.nodes did.old) (steps ++ did ∷ [])
-      (Walked-push env.geometry found.table found.shape steps did (node_loads env.geometry did env.geometry node ListLink is) saw.0))
-      (AllByRecursion-push IsNoLowering steps did saw.1 (no_sub did _ is (λ place value same. cc)))
+  release-saw mix c port owner (at.Searching found search) steps did within is saw =
+      let all = steps ++ did ∷ [] in
+      let next = search_after env.geometry owner search did.old in
+      both (searched found next.0 next.1) all
+      (searched-saw found next.0 next.1 all
+      (Walked-push env.geometry found.table found.shape steps did (search_loads did search is) saw.0))
+      (AllByRecursion-push IsNoLowering steps did saw.1 (no_sub did _ is (search-none env.geometry search)))
   release-saw mix c port owner (at.LinkBehind found node before) steps did within is saw =
       both (cut_or_chain env.geometry found node did.old before) (steps ++ did ∷ [])
       (behind-saw found node did.old before (steps ++ did ∷ [])

@@ -162,7 +162,7 @@ module _ (env : Env) where
   SawForCount _ steps = ⊥
 
 module _ (M : Type 0) (mix : ℕ → ℕ → ℕ → ℕ) (env : Env) (events : List Event) (c : ℕ)
-    (admitted : IsAdmitted env.config.kind events) where
+    (admitted : IsAdmitted events) where
   abbrev IsRecordedHere : Did → Type 0
   IsRecordedHere did = IsRecorded M mix env events c did
 

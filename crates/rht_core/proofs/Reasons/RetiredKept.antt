@@ -89,7 +89,7 @@ module _ (M : Type 0) (mix : ℕ → ℕ → ℕ → ℕ) (env : Env) (events : 
 
   -- ---- an operation
 
-  module _ (admitted : IsAdmitted env.config.kind events) (steps : List Did) (did : Did) where
+  module _ (admitted : IsAdmitted events) (steps : List Did) (did : Did) where
     abbrev all : List Did
     all = steps ++ did ∷ []
 

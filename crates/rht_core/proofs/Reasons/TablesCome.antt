@@ -88,7 +88,7 @@ module _ (M : Type 0) (mix : ℕ → ℕ → ℕ → ℕ) (env : Env) (events : 
   keep_all : c < 16 → (steps : List Did) → AllByRecursion (StaysInSection g) steps → AllByRecursion (LeavesSection g words_at c) steps
   keep_all few steps stay = AllByRecursion-weaker (StaysInSection g) (LeavesSection g words_at c) (λ did stays. stays.1 c few) steps stay
 
-  module _ (admitted : IsAdmitted env.config.kind events) (few : c < 16) where
+  module _ (admitted : IsAdmitted events) (few : c < 16) where
     -- the load of the current table is made in a section
     reads_at : (did : Did) → IsRecordedHere did → did.op ≡ Load (place_of g CurrentTable)
         → word_at g (words_at did.index) (Section c) % 2 ≡ 1
@@ -157,7 +157,7 @@ module _ (M : Type 0) (mix : ℕ → ℕ → ℕ → ℕ) (env : Env) (events : 
 
   -- ---- what that says of an operation, with those before it
 
-  module _ (admitted : IsAdmitted env.config.kind events) (few : c < 16) (before : List Did) (did : Did)
+  module _ (admitted : IsAdmitted events) (few : c < 16) (before : List Did) (did : Did)
       (all : AreTraced (before ++ did ∷ [])) (calm : Unturned before did.index) where
     early_steps : AllByRecursion (IsBefore did.index) before
     early_steps = (rising_around all.from before did [] all.rising).0
@@ -219,6 +219,6 @@ module _ (M : Type 0) (mix : ℕ → ℕ → ℕ → ℕ) (env : Env) (events : 
         let none : word_at g (words_at did.index) (Slot table FutureWord) ≡ 0 =
         sym (ap (old_of (words_at did.index)) attaches.exchanges) ∙ now.found ∙ attaches.found in
         let stands = last_stands env mix (words_at did.index) here.0.ghost here.0.inv.whole table stayed.at none in
-        let parts = AllByRecursion-cut (IsAdmittedEvent env.config.kind) (take did.index events) (drop did.index events)
-        (subst (IsAdmitted env.config.kind) (sym (take-append-drop did.index events)) admitted) in
+        let parts = AllByRecursion-cut IsAdmittedEvent (take did.index events) (drop did.index events)
+        (subst IsAdmitted (sym (take-append-drop did.index events)) admitted) in
         subst (λ s. size_of (unpacked s) ≤ 2 ^ 17) (sym read) ((tables M mix env (take did.index events) parts.0).0.each table stands).most

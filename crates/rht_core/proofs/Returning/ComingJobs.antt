@@ -9,7 +9,7 @@ use Rattle.rht_words.specs.Operations.{old_of}
 use Rattle.rht_words.specs.Standing.{Standing, stands_nowhere}
 use Rattle.rht_arena.specs.NewNode.{new_node_after}
 use Rattle.rht_model.specs.declared.history.Call.{Call}
-use Rattle.rht_model.specs.declared.history.Call.TheVariants.{Rebind, Tidy}
+use Rattle.rht_model.specs.declared.history.Call.TheVariants.{Tidy}
 use Rattle.rht_model.specs.declared.history.Reply.{Reply}
 use Rattle.rht_model.specs.Answers.{Answer}
 use Rattle.rht_model.specs.Endings.{Ending, plain_ending}
@@ -54,7 +54,7 @@ use Rattle.rht_core.specs.Standings.{standing_of, standing_with}
 use Rattle.rht_ghost.proofs.Theory.Ghosts.{Ghost}
 use Rattle.rht_ghost.proofs.Theory.Steps.{mem}
 use Rattle.rht_ghost.proofs.Theory.Wholes.{Whole}
-use Rattle.rht_core.proofs.Events.JobsOfCallers.{first_rebind-so, first_tidy-so, first-of}
+use Rattle.rht_core.proofs.Events.JobsOfCallers.{first_tidy-so, first-of}
 use Rattle.rht_core.proofs.Finding.Lookups.{LookMeans}
 use Rattle.rht_core.proofs.Finding.Places.{Places}
 use Rattle.rht_core.proofs.Machines.JobSteps.{JobIn, JobKnows}
@@ -134,6 +134,8 @@ rebind_outside mix env port owner (rebinding.Giving give) out = (refl, λ old. r
 rebind_outside mix env port owner (rebinding.Replacing node found relink) out =
     absurd (let inside : (held_of_rebind (rebinding.Replacing node found relink)).section ≡ true = either-section _ _ _ refl refl in
     let both : true ≡ false = sym inside ∙ out in cc)
+rebind_outside mix env port owner (rebinding.Unlocking table unlock (ends.Rebound removed)) out = absurd (cc)
+rebind_outside mix env port owner (rebinding.Unlocking table unlock (ends.Absent node)) out = absurd (cc)
 rebind_outside mix env port owner (rebinding.Closing (ends.Rebound removed)) out = absurd (cc)
 rebind_outside mix env port owner (rebinding.Closing (ends.Absent node)) out = absurd (cc)
 rebind_outside mix env port owner _ out = absurd (cc)
@@ -200,7 +202,6 @@ job_outside mix env counts out = record { before = refl; behind = λ old. refl }
 
 -- a call begins nowhere
 first-nowhere : (env : Env) (call : Call) (batch : Option BatchModel) → IfSome (first_job env batch call) (λ job. standing_of job ≡ stands_nowhere)
-first-nowhere env (Rebind port owner new) batch = first_rebind-so (λ job. standing_of job ≡ stands_nowhere) env port owner new refl
 first-nowhere env Tidy batch = first_tidy-so (λ job. standing_of job ≡ stands_nowhere) batch (λ own. refl)
 first-nowhere env _ batch = refl
 

@@ -8,7 +8,7 @@ use Rattle.rht_words.specs.declared.machine.Next.TheVariants.{Go, Done}
 use Rattle.rht_words.specs.Links.{node_of}
 use Rattle.rht_words.specs.Operations.{old_of}
 use Rattle.rht_words.specs.Ports.{owner_of}
-use Rattle.rht_words.specs.Standing.{Standing, stands_nowhere, if_one}
+use Rattle.rht_words.specs.Standing.{Standing, stands_nowhere, stands_in, if_one}
 use Rattle.rht_arena.specs.NewNode.{NewNodeModel, new_node_plan, new_node_after}
 use Rattle.rht_chain.specs.ChainNodes.{nodes_of_relink}
 use Rattle.rht_chain.specs.Relink.{RelinkModel, relink_at, relink_after_at}
@@ -16,15 +16,19 @@ use Rattle.rht_chain.specs.declared.relink.RelinkAt.{RelinkAt}
 use Rattle.rht_chain.specs.declared.relink.RelinkAt.TheVariants as relinks
 use Rattle.rht_release.specs.All as all
 use Rattle.rht_release.specs.AllStanding.{standing_of_all}
+use Rattle.rht_release.specs.ListSearch.{list_followed, search_plan, search_after}
 use Rattle.rht_release.specs.Rebind as rebind
 use Rattle.rht_release.specs.RebindStanding.{standing_of_rebind}
 use Rattle.rht_release.specs.Release as release
 use Rattle.rht_release.specs.ReleaseStanding.{standing_of_release}
 use Rattle.rht_release.specs.Seek.{SeekModel, seek_plan, seek_after}
-use Rattle.rht_release.specs.SeekStanding.{standing_of_seek, at_found, at_relink}
+use Rattle.rht_release.specs.SeekStanding.{standing_of_seek, at_found, at_relink, nodes_of_search}
 use Rattle.rht_release.specs.declared.all.AllAt.{AllAt}
 use Rattle.rht_release.specs.declared.all.AllAt.TheVariants as alls
 use Rattle.rht_release.specs.declared.found_port.FoundPort.{FoundPort}
+use Rattle.rht_release.specs.declared.list_search.ListPlace.{ListPlace}
+use Rattle.rht_release.specs.declared.list_search.ListSearch.{ListSearch}
+use Rattle.rht_release.specs.declared.list_search.ListSearch.TheVariants as searches
 use Rattle.rht_release.specs.declared.rebind.RebindAt.{RebindAt}
 use Rattle.rht_release.specs.declared.rebind.RebindAt.TheVariants as rebinds
 use Rattle.rht_release.specs.declared.rebind.RebindEnd.{RebindEnd}
@@ -120,6 +124,35 @@ module _ (env : Env) (mix : ℕ → ℕ → ℕ → ℕ) (port owner : ℕ) (wor
   all_comes (alls.Unlocking table unlock) within known = to_nowhere _ _ _
   all_comes alls.Closing within known = to_nowhere _ _ _
 
+  -- ---- the search of a list
+
+  -- it stands at the nodes at which it looks; and what it has found is one of them, behind which only the table is left
+  abbrev search_stands : FoundPort → ListSearch × Next (Option ListPlace) → Standing
+  search_stands found (search, Go) = at_found found (nodes_of_search search)
+  search_stands found (search, Done None) = stands_in (found.table ∷ [])
+  search_stands found (search, Done (Some place)) = at_found found (place.node ∷ if_one place.before)
+
+  search_followed : (from : Standing) (found : FoundPort) (node : ℕ) (next : Option ℕ)
+      → Comes env.geometry words from (at_found found []) → ReachesListed env.geometry words from node
+      → ((n : ℕ) → next ≡ Some n → ReachesListed env.geometry words from n)
+      → Comes env.geometry words from (search_stands found (list_followed node next))
+  search_followed from found node None there at leads = leaves_port env words from found there
+  search_followed from found node (Some n) there at leads = at_port env words from found _ there (leads n refl, (at, tt))
+
+  search_comes : (found : FoundPort) (search : ListSearch)
+      → Comes env.geometry words (at_found found (nodes_of_search search))
+      (search_stands found (search_after env.geometry owner search (old_of words (search_plan env.geometry search))))
+  search_comes found (searches.Owner node before) =
+      let from = at_found found (node ∷ if_one before) in
+      cond_both (owner_of (old_of words (search_plan env.geometry (searches.Owner node before))) == owner) _ _
+      (λ next. Comes env.geometry words from (search_stands found next))
+      (λ t. stays env.geometry words from)
+      (λ f. at_port env words from found _ (here found _) (at_listed node (inl refl), tt))
+  search_comes found (searches.ListLink node) =
+      let from = at_found found (node ∷ []) in
+      search_followed from found node (node_of env.geometry.nodes (old_of words (search_plan env.geometry (searches.ListLink node))))
+      (here found (node ∷ [])) (at_listed node (inl refl)) (λ n leads. by_list node n (at_listed node (inl refl)) leads)
+
   -- ---- a release
 
   release_sought : (from : Standing) (seek : SeekModel) (next : Next (Option FoundPort))
@@ -130,12 +163,12 @@ module _ (env : Env) (mix : ℕ → ℕ → ℕ → ℕ) (port owner : ℕ) (wor
   release_sought from seek (Done (Some found)) there =
       at_port env words from found _ there (first_listed env words from found there, tt)
 
-  release_followed : (from : Standing) (found : FoundPort) (node : ℕ) (next : Option ℕ)
-      → Comes env.geometry words from (at_found found []) → ReachesListed env.geometry words from node
-      → ((n : ℕ) → next ≡ Some n → ReachesListed env.geometry words from n)
-      → Comes env.geometry words from (standing_of_release (release.list_followed found node next))
-  release_followed from found node None there at leads = leaves_port env words from found there
-  release_followed from found node (Some n) there at leads = at_port env words from found _ there (leads n refl, (at, tt))
+  release_searched : (from : Standing) (found : FoundPort) (search : ListSearch) (next : Next (Option ListPlace))
+      → Comes env.geometry words from (search_stands found (search, next))
+      → Comes env.geometry words from (standing_of_release (release.searched found search next))
+  release_searched from found search Go there = there
+  release_searched from found search (Done None) there = there
+  release_searched from found search (Done (Some place)) there = there
 
   release_cut : (found : FoundPort) (node : ℕ) (before : Option ℕ)
       → let from = standing_of_release (releases.LinkBehind found node before) in
@@ -174,16 +207,9 @@ module _ (env : Env) (mix : ℕ → ℕ → ℕ → ℕ) (port owner : ℕ) (wor
   release_comes (releases.Seeking seek) within known =
       let r = seek_after mix port seek (old_of words (seek_plan seek)) in
       release_sought (standing_of_seek seek.at) r.0 r.1 (seek_comes env mix c port (known seek refl).0 words G whole seek within (known seek refl).1)
-  release_comes (releases.Owner found node before) within known =
-      let from = at_found found (node ∷ if_one before) in
-      cond_both (owner_of (old_of words (release.plan_at env c (releases.Owner found node before))) == owner) _ _
-      (λ next. Comes env.geometry words from (standing_of_release next))
-      (λ t. stays env.geometry words from)
-      (λ f. at_port env words from found _ (here found _) (at_listed node (inl refl), tt))
-  release_comes (releases.ListLink found node) within known =
-      let from = at_found found (node ∷ []) in
-      release_followed from found node (node_of env.geometry.nodes (old_of words (release.plan_at env c (releases.ListLink found node))))
-      (here found (node ∷ [])) (at_listed node (inl refl)) (λ n leads. by_list node n (at_listed node (inl refl)) leads)
+  release_comes (releases.Searching found search) within known =
+      let r = search_after env.geometry owner search (old_of words (search_plan env.geometry search)) in
+      release_searched (at_found found (nodes_of_search search)) found r.0 r.1 (search_comes found search)
   release_comes (releases.LinkBehind found node before) within known = release_cut found node before
   release_comes (releases.CuttingOut found node before link) within known =
       leaves_port env words (at_found found (node ∷ before ∷ [])) found (here found (node ∷ before ∷ []))
@@ -203,7 +229,21 @@ module _ (env : Env) (mix : ℕ → ℕ → ℕ → ℕ) (port owner : ℕ) (wor
       → Comes env.geometry words from (standing_of_rebind (rebind.sought node seek next))
   rebind_sought from node seek Go there = there
   rebind_sought from node seek (Done None) there = there
-  rebind_sought from node seek (Done (Some found)) there = there
+  rebind_sought from node seek (Done (Some found)) there =
+      at_port env words from found _ there (first_listed env words from found there, tt)
+
+  rebind_searched : (from : Standing) (node : ℕ) (found : FoundPort) (search : ListSearch) (next : Next (Option ListPlace))
+      → Comes env.geometry words from (search_stands found (search, next))
+      → Comes env.geometry words from (standing_of_rebind (rebind.searched node found search next))
+  rebind_searched from node found search Go there = there
+  rebind_searched from node found search (Done None) there = there
+  rebind_searched from node found search (Done (Some place)) there = there
+
+  rebind_swapped : (node : ℕ) (found : FoundPort) (old : ℕ) (before : Option ℕ)
+      → Comes env.geometry words (at_found found (old ∷ if_one before))
+      (standing_of_rebind (rebind.swap_or_chain node found old before))
+  rebind_swapped node found old None = here found (old ∷ [])
+  rebind_swapped node found old (Some before) = stays env.geometry words (at_found found (old ∷ before ∷ []))
 
   replaced : (node : ℕ) (found : FoundPort) (relink : RelinkModel) (state : RelinkAt)
       → Comes env.geometry words (at_relink found (record relink { at = state }))
@@ -227,14 +267,17 @@ module _ (env : Env) (mix : ℕ → ℕ → ℕ → ℕ) (port owner : ℕ) (wor
   rebind_comes (rebinds.Seeking node seek) within known =
       let r = seek_after mix port seek (old_of words (seek_plan seek)) in
       rebind_sought (standing_of_seek seek.at) node r.0 r.1 (seek_comes env mix c port (known node seek refl).0 words G whole seek within.seek_in (known node seek refl).1)
-  rebind_comes (rebinds.Owner node found) within known =
-      let from = at_found found [] in
-      cond_both (owner_of (old_of words (rebind.plan_at env c (rebinds.Owner node found))) == owner) _ _
-      (λ next. Comes env.geometry words from (standing_of_rebind next))
-      (λ t. stays env.geometry words from) (λ f. leaves_port env words from found (here found []))
+  rebind_comes (rebinds.Searching node found search) within known =
+      let r = search_after env.geometry owner search (old_of words (search_plan env.geometry search)) in
+      rebind_searched (at_found found (nodes_of_search search)) node found r.0 r.1 (search_comes found search)
+  rebind_comes (rebinds.LinkBehind node found old before) within known =
+      stays env.geometry words (at_found found (old ∷ if_one before))
+  rebind_comes (rebinds.OwnListLink node found old before link) within known = rebind_swapped node found old before
+  rebind_comes (rebinds.Swapping node found old before) within known =
+      let from = at_found found (old ∷ before ∷ []) in leaves_port env words from found (here found (old ∷ before ∷ []))
   rebind_comes (rebinds.ChainLink node found) within known = stays env.geometry words (at_found found [])
   rebind_comes (rebinds.Link node found link) within known = at_relinking env words (at_found found []) found _ (here found [])
   rebind_comes (rebinds.Replacing node found relink) within known = replaced node found relink relink.at
-  rebind_comes (rebinds.Unlocking node table unlock) within known = to_nowhere _ _ _
+  rebind_comes (rebinds.Unlocking table unlock end) within known = to_nowhere _ _ _
   rebind_comes (rebinds.Closing end) within known = rebind_closed _ end
   rebind_comes (rebinds.Giving give) within known = to_nowhere _ _ _

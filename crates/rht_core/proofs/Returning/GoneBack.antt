@@ -53,9 +53,12 @@ module _ (env : Env) (mix : ℕ → ℕ → ℕ → ℕ) (c : ℕ) (M : Memory) 
         | inl unused ↦ not_unused change.other unused same
         | inr there ↦ not_behind change.other change.port change.one is.behind is.bound_to there same
       ])
-  rebinds_none change (inr (inr is)) =
+  rebinds_none change (inr (inr (inl is))) =
       let gone = not_behind change.other change.port is.first is.behind is.bound_to is.member in
       changes change (λ same. gone (same ∙ is.one)) gone
+  rebinds_none change (inr (inr (inr is))) =
+      changes change (not_behind change.one change.port is.first is.behind is.bound_to is.member)
+      (not_unused change.other is.from)
 
   -- so it is this operation that gives it back
   pub gives_back : (move : Move) → ReadyFor env mix c M G move → (ghost_after env mix c move G).node n ≡ Free → move ≡ ReturnsNode n

@@ -153,7 +153,7 @@ module _ (env : Env) (mix : ℕ → ℕ → ℕ → ℕ) (L : Type 0) where
     whole : Whole env mix (mem env mix w.core.words) ghost
     lies : Lies env mix w.core.words ghost (held_of_find state) (standing_of_find state) (λ thing. ⊥) (find.plan_at env c state)
 
-  module _ (events : List Event) (admitted : IsAdmitted env.config.kind events) where
+  module _ (events : List Event) (admitted : IsAdmitted events) where
     abbrev R : Traced L
     R = traced_of mix env events
 
@@ -332,8 +332,8 @@ module _ (env : Env) (mix : ℕ → ℕ → ℕ → ℕ) (L : Type 0) where
 pub inside : (L : Type 0) (mix : ℕ → ℕ → ℕ → ℕ) → Inside L mix
 inside L mix env events c did admitted recorded =
     let before = take did.index events in
-    let first = (AllByRecursion-cut (IsAdmittedEvent env.config.kind) before (drop did.index events)
-    (subst (IsAdmitted env.config.kind) (sym (take-append-drop did.index events)) admitted)).0 in
+    let first = (AllByRecursion-cut IsAdmittedEvent before (drop did.index events)
+    (subst IsAdmitted (sym (take-append-drop did.index events)) admitted)).0 in
     let core : Core L = (run_of mix env before).core in
     let met = has_met env mix L before first in
     let placed = met.placed in

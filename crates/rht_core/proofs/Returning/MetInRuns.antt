@@ -34,7 +34,7 @@ module _ (env : Env) (mix : ℕ → ℕ → ℕ → ℕ) (L : Type 0) where
     pub apart : (c : ℕ) (op : Op) (of : StepOf env mix L core placed.ghost c op) (n : ℕ) → planned_in core c ≡ Some op
         → of.step.move ≡ ReturnsNode n → IsApart env.geometry.callers readers n
 
-  module _ (events : List Event) (admitted : IsAdmitted env.config.kind events) where
+  module _ (events : List Event) (admitted : IsAdmitted events) where
     abbrev core : Core L
     core = (W events).core
 

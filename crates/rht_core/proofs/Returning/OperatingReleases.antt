@@ -2,14 +2,17 @@
 use Rattle.std.proofs.Common.{◌≡◌, ℕ, ◌/◌, ◌<◌, Bool, true, false, List, Option, Some, None, refl, sym, ◌∙◌, ap, inl, inr, subst}
 use Rattle.rht_words.specs.declared.env.Env.{Env}
 use Rattle.rht_words.specs.declared.geometry.Geometry.{Geometry}
+use Rattle.rht_words.specs.Held.{Held}
 use Rattle.rht_words.specs.Places.{PortCount, Section, Node, ChainLink, OwnerWord, ListLink}
 use Rattle.rht_chain.specs.Relink.{RelinkModel, has_relinked}
+use Rattle.rht_model.specs.Answers.{Answer}
 use Rattle.rht_model.specs.Rooms.{Kept}
 use Rattle.rht_release.specs.All as all
 use Rattle.rht_release.specs.AllHeld.{held_of_all}
 use Rattle.rht_release.specs.AllStanding.{standing_of_all}
+use Rattle.rht_release.specs.ListSearch.{search_plan, IsSearchIn}
 use Rattle.rht_release.specs.Rebind as rebind
-use Rattle.rht_release.specs.RebindHeld.{held_of_rebind, holds_replacing}
+use Rattle.rht_release.specs.RebindHeld.{held_of_rebind, holds_replacing, holds_end}
 use Rattle.rht_release.specs.RebindStanding.{standing_of_rebind}
 use Rattle.rht_release.specs.Release as release
 use Rattle.rht_release.specs.ReleaseHeld.{held_of_release, holds_relinking}
@@ -17,6 +20,10 @@ use Rattle.rht_release.specs.ReleaseStanding.{standing_of_release}
 use Rattle.rht_release.specs.declared.all.AllAt.{AllAt}
 use Rattle.rht_release.specs.declared.all.AllAt.TheVariants as alls
 use Rattle.rht_release.specs.declared.found_port.FoundPort.{FoundPort}
+use Rattle.rht_release.specs.declared.list_search.ListSearch.{ListSearch}
+use Rattle.rht_release.specs.declared.list_search.ListSearch.TheVariants as searches
+use Rattle.rht_release.specs.declared.rebind.RebindEnd.{RebindEnd}
+use Rattle.rht_release.specs.declared.rebind.RebindEnd.TheVariants as ends
 use Rattle.rht_release.specs.declared.rebind.RebindAt.{RebindAt}
 use Rattle.rht_release.specs.declared.rebind.RebindAt.TheVariants as rebinds
 use Rattle.rht_release.specs.declared.release.ReleaseAt.{ReleaseAt}
@@ -24,7 +31,7 @@ use Rattle.rht_release.specs.declared.release.ReleaseAt.TheVariants as releases
 use Rattle.rht_release.proofs.AllSteps.{AllKnows}
 use Rattle.rht_release.proofs.RebindKnowledge.{RebindKnows, own}
 use Rattle.rht_release.proofs.ReleaseKnowledge.{ReleaseKnows}
-use Rattle.rht_release.specs.SeekStanding.{at_relink}
+use Rattle.rht_release.specs.SeekStanding.{at_found, at_relink, nodes_of_search}
 use Rattle.rht_core.specs.Reach.{Thing, at_table}
 use Rattle.rht_ghost.proofs.Pieces.Relinks.{relinking}
 use Rattle.rht_ghost.proofs.Theory.Ghosts.{Ghost}
@@ -49,6 +56,11 @@ replacing-inside : (node : ℕ) (found : FoundPort) (stored : Bool) → (holds_r
 replacing-inside node found true = refl
 replacing-inside node found false = refl
 
+-- and so it is while it unlocks the bucket
+end-inside : (lock : Option ℕ) (end : RebindEnd) → (holds_end lock end).section ≡ true
+end-inside lock (ends.Rebound removed) = refl
+end-inside lock (ends.Absent node) = refl
+
 module _ (env : Env) (mix : ℕ → ℕ → ℕ → ℕ) (port owner : ℕ) (words : List ℕ) (G : Ghost)
     (whole : Whole env mix (mem env mix words) G) (c : ℕ) (low : c < 16) where
   -- the bucket whose chain is changed is the port's
@@ -58,6 +70,14 @@ module _ (env : Env) (mix : ℕ → ℕ → ℕ → ℕ) (port owner : ℕ) (wor
       let from = at_relink found relink in
       subst (λ p. PageThere env.geometry words G from (word_index env mix p / 64)) (sym place)
       (tied_page env mix words G whole from found.table found.bucket.place (at_table found.table (inl refl)) tied)
+
+  -- the search of a port's list is at its nodes
+  search_lies : (h : Held Answer) (Own : Thing → Type 0) (found : FoundPort) (search : ListSearch) → IsSearchIn env.geometry search
+      → h.section ≡ true → Lies env mix words G h (at_found found (nodes_of_search search)) Own (search_plan env.geometry search)
+  search_lies h Own found (searches.Owner node before) within inside =
+      record { address = Node node OwnerWord; there = within.node_in; on = refl; may = inr (inside, inr (inl refl)) }
+  search_lies h Own found (searches.ListLink node) within inside =
+      record { address = Node node ListLink; there = within; on = refl; may = inr (inside, inr (inl refl)) }
 
   -- ---- a listing
 
@@ -91,10 +111,8 @@ module _ (env : Env) (mix : ℕ → ℕ → ℕ → ℕ) (port owner : ℕ) (wor
   release_lies releases.Opening within knows tied = record { address = Section c; there = low; on = refl; may = tt }
   release_lies (releases.Seeking seek) within knows tied =
       seek_lies env mix words G whole _ (OwnRelease (releases.Seeking seek)) c port None seek within refl tied knows.knowing.means.table
-  release_lies (releases.Owner found node before) within knows tied =
-      record { address = Node node OwnerWord; there = within.node_in; on = refl; may = inr (refl, inr (inl refl)) }
-  release_lies (releases.ListLink found node) within knows tied =
-      record { address = Node node ListLink; there = within.node_in; on = refl; may = inr (refl, inr (inl refl)) }
+  release_lies (releases.Searching found search) within knows tied =
+      search_lies _ (OwnRelease (releases.Searching found search)) found search within.search_in refl
   release_lies (releases.LinkBehind found node before) within knows tied =
       record { address = Node node ListLink; there = within.node_in; on = refl; may = inr (refl, inr (inl refl)) }
   release_lies (releases.CuttingOut found node before link) within knows tied =
@@ -136,8 +154,14 @@ module _ (env : Env) (mix : ℕ → ℕ → ℕ → ℕ) (port owner : ℕ) (wor
   rebind_lies new (rebinds.Seeking node seek) within knows tied =
       seek_lies env mix words G whole _ (OwnRebind (rebinds.Seeking node seek)) c port (Some (own port owner new node)) seek within.seek_in
       refl tied knows.knowing.means.table
-  rebind_lies new (rebinds.Owner node found) within knows tied =
-      record { address = Node found.node OwnerWord; there = within.found_in.node_in; on = refl; may = inr (refl, inl (inl refl)) }
+  rebind_lies new (rebinds.Searching node found search) within knows tied =
+      search_lies _ (OwnRebind (rebinds.Searching node found search)) found search within.search_in refl
+  rebind_lies new (rebinds.LinkBehind node found old before) within knows tied =
+      record { address = Node old ListLink; there = within.old_in; on = refl; may = inr (refl, inr (inl refl)) }
+  rebind_lies new (rebinds.OwnListLink node found old before link) within knows tied =
+      record { address = Node node ListLink; there = within.at_old.node_in; on = refl; may = inl (refl, knows.knowing.means.node.has.mine) }
+  rebind_lies new (rebinds.Swapping node found old before) within knows tied =
+      record { address = Node before ListLink; there = within.before_in; on = refl; may = inr (refl, inr (inr (inl refl))) }
   rebind_lies new (rebinds.ChainLink node found) within knows tied =
       record { address = Node found.node ChainLink; there = within.found_in.node_in; on = refl; may = inr (refl, inl (inl refl)) }
   rebind_lies new (rebinds.Link node found link) within knows tied =
@@ -147,9 +171,10 @@ module _ (env : Env) (mix : ℕ → ℕ → ℕ → ℕ) (port owner : ℕ) (wor
       let place = ap (λ (m : RelinkModel). m.place) knows.fits ∙ relinking-place _ found.bucket.place _ _ _ stored in
       relink_lies env mix words G _ (at_relink found relink) (OwnRebind (rebinds.Replacing node found relink)) relink within.relink_in (replacing-inside node found stored) (λ n i. i)
       (relink_page found relink place tied)
-  rebind_lies new (rebinds.Unlocking node table unlock) within knows tied =
-      let from = standing_of_rebind (rebinds.Unlocking node table unlock) in
-      unlock_lies env mix words G _ from (OwnRebind (rebinds.Unlocking node table unlock)) unlock within.unlock_in refl
+  rebind_lies new (rebinds.Unlocking table unlock end) within knows tied =
+      let from = standing_of_rebind (rebinds.Unlocking table unlock end) in
+      unlock_lies env mix words G _ from (OwnRebind (rebinds.Unlocking table unlock end)) unlock within.unlock_in
+      (end-inside (Some unlock.place) end)
       (tied_page env mix words G whole from table unlock.place (at_table table (inl refl)) tied)
   rebind_lies new (rebinds.Closing end) within knows tied = record { address = Section c; there = low; on = refl; may = tt }
   rebind_lies new (rebinds.Giving give) within knows tied = give_node_lies env mix words G _ _ (OwnRebind (rebinds.Giving give)) give within

@@ -259,8 +259,8 @@ module _ (env : Env) (mix : ℕ → ℕ → ℕ → ℕ) (L : Type 0) where
 pub safe : (L : Type 0) (mix : ℕ → ℕ → ℕ → ℕ) → Safe L mix
 safe L mix env events admitted c did thing recorded gives =
     let before = take did.index events in
-    let first = (AllByRecursion-cut (IsAdmittedEvent env.config.kind) before (drop did.index events)
-    (subst (IsAdmitted env.config.kind) (sym (take-append-drop did.index events)) admitted)).0 in
+    let first = (AllByRecursion-cut IsAdmittedEvent before (drop did.index events)
+    (subst IsAdmitted (sym (take-append-drop did.index events)) admitted)).0 in
     let core : Core L = (run_of mix env before).core in
     let met = has_met env mix L before first in
     let G = met.placed.ghost in

@@ -12,7 +12,6 @@ use Rattle.rht_words.specs.declared.machine.Next.TheVariants.{Go, Done}
 use Rattle.rht_words.specs.declared.machine.Start.{Start}
 use Rattle.rht_words.specs.declared.machine.Start.TheVariants as starts
 use Rattle.rht_words.specs.Links.{slot_of, node_of}
-use Rattle.rht_words.specs.Ports.{owner_of}
 use Rattle.rht_words.specs.Shapes.{size_of, unpacked}
 use Rattle.rht_arena.specs.NewNode.{NewNodeModel, new_node_after}
 use Rattle.rht_policy.specs.Thresholds.{is_above_75, is_above_100, is_above_max}
@@ -57,11 +56,14 @@ use Rattle.rht_bind.proofs.BindKnowledge.{known_of_bind}
 use Rattle.rht_release.specs.All as all
 use Rattle.rht_release.specs.Rebind as rebind
 use Rattle.rht_release.specs.Release as release
+use Rattle.rht_release.specs.ListSearch.{search_after}
 use Rattle.rht_release.specs.Seek as seek_of
 use Rattle.rht_release.specs.Seek.{SeekModel, seek_after, seek_after_at}
 use Rattle.rht_release.specs.declared.all.AllAt.{AllAt}
 use Rattle.rht_release.specs.declared.all.AllAt.TheVariants as listing
 use Rattle.rht_release.specs.declared.found_port.FoundPort.{FoundPort}
+use Rattle.rht_release.specs.declared.list_search.ListPlace.{ListPlace}
+use Rattle.rht_release.specs.declared.list_search.ListSearch.{ListSearch}
 use Rattle.rht_release.specs.declared.rebind.RebindAt.{RebindAt}
 use Rattle.rht_release.specs.declared.rebind.RebindAt.TheVariants as rebinding
 use Rattle.rht_release.specs.declared.rebind.RebindEnd.{RebindEnd}
@@ -111,8 +113,7 @@ module _ (env : Env) (mix : ℕ → ℕ → ℕ → ℕ) (G : Ghost) where
   abbrev pub tied_of_release : ReleaseAt → Type 0
   tied_of_release releasing.Opening = Unit {0}
   tied_of_release (releasing.Seeking seek) = tied_of_seek seek.at
-  tied_of_release (releasing.Owner found node before) = tied_at found
-  tied_of_release (releasing.ListLink found node) = tied_at found
+  tied_of_release (releasing.Searching found search) = tied_at found
   tied_of_release (releasing.LinkBehind found node before) = tied_at found
   tied_of_release (releasing.CuttingOut found node before link) = tied_at found
   tied_of_release (releasing.ChainLink found second) = tied_at found
@@ -127,11 +128,14 @@ module _ (env : Env) (mix : ℕ → ℕ → ℕ → ℕ) (G : Ghost) where
   tied_of_rebind (rebinding.Filling new) = Unit {0}
   tied_of_rebind (rebinding.Opening node) = Unit {0}
   tied_of_rebind (rebinding.Seeking node seek) = tied_of_seek seek.at
-  tied_of_rebind (rebinding.Owner node found) = tied_at found
+  tied_of_rebind (rebinding.Searching node found search) = tied_at found
+  tied_of_rebind (rebinding.LinkBehind node found old before) = tied_at found
+  tied_of_rebind (rebinding.OwnListLink node found old before link) = tied_at found
+  tied_of_rebind (rebinding.Swapping node found old before) = tied_at found
   tied_of_rebind (rebinding.ChainLink node found) = tied_at found
   tied_of_rebind (rebinding.Link node found link) = tied_at found
   tied_of_rebind (rebinding.Replacing node found relink) = tied_at found
-  tied_of_rebind (rebinding.Unlocking node table unlock) = IsTied table unlock.place
+  tied_of_rebind (rebinding.Unlocking table unlock end) = IsTied table unlock.place
   tied_of_rebind (rebinding.Closing end) = Unit {0}
   tied_of_rebind (rebinding.Giving give) = Unit {0}
 
@@ -240,10 +244,11 @@ module _ (env : Env) (mix : ℕ → ℕ → ℕ → ℕ) (G : Ghost) where
   release-tied seek (Done None) tied = tt
   release-tied seek (Done (Some found)) tied = tied
 
-  release_followed-tied : (found : FoundPort) (node : ℕ) (next : Option ℕ) → tied_at found
-      → tied_of_release (release.list_followed found node next)
-  release_followed-tied found node None tied = record { at = tied.at; of = tied.of }
-  release_followed-tied found node (Some n) tied = tied
+  release_searched-tied : (found : FoundPort) (search : ListSearch) (next : Next (Option ListPlace)) → tied_at found
+      → tied_of_release (release.searched found search next)
+  release_searched-tied found search Go tied = tied
+  release_searched-tied found search (Done None) tied = record { at = tied.at; of = tied.of }
+  release_searched-tied found search (Done (Some place)) tied = tied
 
   release_cut-tied : (g : Geometry) (found : FoundPort) (node link : ℕ) (before : Option ℕ) → tied_at found
       → tied_of_release (release.cut_or_chain g found node link before)
@@ -275,6 +280,17 @@ module _ (env : Env) (mix : ℕ → ℕ → ℕ → ℕ) (G : Ghost) where
   rebind-tied node seek Go tied = tied
   rebind-tied node seek (Done None) tied = tt
   rebind-tied node seek (Done (Some found)) tied = tied
+
+  rebind_searched-tied : (node : ℕ) (found : FoundPort) (search : ListSearch) (next : Next (Option ListPlace)) → tied_at found
+      → tied_of_rebind (rebind.searched node found search next)
+  rebind_searched-tied node found search Go tied = tied
+  rebind_searched-tied node found search (Done None) tied = record { at = tied.at; of = tied.of }
+  rebind_searched-tied node found search (Done (Some place)) tied = tied
+
+  rebind_swapped-tied : (node : ℕ) (found : FoundPort) (old : ℕ) (before : Option ℕ) → tied_at found
+      → tied_of_rebind (rebind.swap_or_chain node found old before)
+  rebind_swapped-tied node found old None tied = tied
+  rebind_swapped-tied node found old (Some before) tied = tied
 
   replaced-tied : (node : ℕ) (found : FoundPort) (relink : RelinkModel) (state : RelinkAt) → tied_at found
       → tied_of_rebind (let r = relink_after_at relink state in rebind.replaced node found r.0 r.1)
@@ -429,10 +445,8 @@ module _ (env : Env) (mix : ℕ → ℕ → ℕ → ℕ) (words : List ℕ) (G :
   release_ties releasing.Opening word within known tied = tt
   release_ties (releasing.Seeking seek) word within known tied =
       let r = seek_after mix port seek word in release-tied env mix G r.0 r.1 (seek_ties None seek word within.geometry_same known)
-  release_ties (releasing.Owner found node before) word within known tied =
-      cond_both (owner_of word == owner) _ _ (tied_of_release env mix G) (λ t. tied) (λ f. tied)
-  release_ties (releasing.ListLink found node) word within known tied =
-      release_followed-tied env mix G found node (node_of env.geometry.nodes word) tied
+  release_ties (releasing.Searching found search) word within known tied =
+      let r = search_after env.geometry owner search word in release_searched-tied env mix G found r.0 r.1 tied
   release_ties (releasing.LinkBehind found node before) word within known tied =
       release_cut-tied env mix G env.geometry found node word before tied
   release_ties (releasing.CuttingOut found node before link) word within known tied = record { at = tied.at; of = tied.of }
@@ -453,12 +467,16 @@ module _ (env : Env) (mix : ℕ → ℕ → ℕ → ℕ) (words : List ℕ) (G :
   rebind_ties new (rebinding.Seeking node seek) word within known tied =
       let r = seek_after mix port seek word in
       rebind-tied env mix G node r.0 r.1 (seek_ties (Some (own port owner new node)) seek word within.seek_in.geometry_same known)
-  rebind_ties new (rebinding.Owner node found) word within known tied =
-      cond_both (owner_of word == owner) _ _ (tied_of_rebind env mix G) (λ t. tied) (λ f. record { at = tied.at; of = tied.of })
+  rebind_ties new (rebinding.Searching node found search) word within known tied =
+      let r = search_after env.geometry owner search word in rebind_searched-tied env mix G node found r.0 r.1 tied
+  rebind_ties new (rebinding.LinkBehind node found old before) word within known tied = tied
+  rebind_ties new (rebinding.OwnListLink node found old before link) word within known tied =
+      rebind_swapped-tied env mix G node found old before tied
+  rebind_ties new (rebinding.Swapping node found old before) word within known tied = record { at = tied.at; of = tied.of }
   rebind_ties new (rebinding.ChainLink node found) word within known tied = tied
   rebind_ties new (rebinding.Link node found link) word within known tied = tied
   rebind_ties new (rebinding.Replacing node found relink) word within known tied = replaced-tied env mix G node found relink relink.at tied
-  rebind_ties new (rebinding.Unlocking node table unlock) word within known tied = tt
+  rebind_ties new (rebinding.Unlocking table unlock end) word within known tied = tt
   rebind_ties new (rebinding.Closing end) word within known tied = rebind_closed-tied env mix G env.geometry end
   rebind_ties new (rebinding.Giving give) word within known tied = tt
 

@@ -6,7 +6,7 @@ use Rattle.rht_words.specs.declared.env.Env.{Env}
 use Rattle.rht_words.specs.declared.machine.Next.{Next}
 use Rattle.rht_words.specs.declared.machine.Next.TheVariants.{Go, Done}
 use Rattle.rht_model.specs.declared.history.Call.{Call}
-use Rattle.rht_model.specs.declared.history.Call.TheVariants.{Rebind, Tidy}
+use Rattle.rht_model.specs.declared.history.Call.TheVariants.{Tidy}
 use Rattle.rht_model.specs.Endings.{Ending, plain_ending}
 use Rattle.rht_bind.specs.declared.bind.BindAt.{BindAt}
 use Rattle.rht_bind.specs.declared.bind.BindAt.TheVariants as binding
@@ -21,7 +21,7 @@ use Rattle.rht_release.specs.declared.seek.SeekAt.{SeekAt}
 use Rattle.rht_release.specs.declared.seek.SeekAt.TheVariants as seeks
 use Rattle.rht_grace.specs.Batch.{BatchModel}
 use Rattle.rht_core.specs.Jobs.{Job, finds, binds, lists, releases, rebinds, works, tidies, tidying, walks, walk_ending, counts, first_job, listing_ending, node_ending, job_plan, job_next, job_after, told, IsFirstJob}
-use Rattle.rht_core.proofs.Events.JobsOfCallers.{first_rebind-so, first_tidy-so, first-of}
+use Rattle.rht_core.proofs.Events.JobsOfCallers.{first_tidy-so, first-of}
 use Rattle.rht_core.proofs.Machines.JobSteps.{JobIn, JobKnows}
 use Rattle.rht_words.specs.Operations.{old_of}
 use Rattle.rht_walk.specs.Walk as walk
@@ -57,7 +57,6 @@ module _ (env : Env) (mix : ℕ → ℕ → ℕ → ℕ) where
 
   -- it is so of a job with which a call begins
   first-tied : (G : Ghost) (call : Call) (batch : Option BatchModel) → IfSome (first_job env batch call) (tied_of G)
-  first-tied G (Rebind port owner new) batch = first_rebind-so (tied_of G) env port owner new tt
   first-tied G Tidy batch = first_tidy-so (tied_of G) batch (λ own. tt)
   first-tied G _ batch = tt
 

@@ -63,7 +63,7 @@ module _ (env : Env) (mix : ℕ → ℕ → ℕ → ℕ) (L : Type 0) where
         → waits_own batch → waits_of machine (batch_beside machine batch)
     begun_of c batch call machine is waits =
         begins_so L env c batch (λ asked first. waits_of first (batch_beside first batch))
-        (λ port. waits) (λ port owner once. waits) (λ port. waits) (λ port owner. waits) (λ port owner new single. waits) waits waits
+        (λ port. waits) (λ port owner once. waits) (λ port. waits) (λ port owner. waits) (λ port owner new. waits) waits waits
         (λ own has. begun_waits env mix M readers own (subst waits_own has waits)) (λ from limit. waits)
         call machine is
 

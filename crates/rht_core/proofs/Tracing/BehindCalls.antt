@@ -75,11 +75,11 @@ module _ (M : Type 0) (mix : ℕ → ℕ → ℕ → ℕ) (env : Env) (events : 
       (ap (λ (v : World M). is_idle (local_of v.core c)) (run_of-next M mix env events last.index (Step c) recorded_last.event)
       ∙ ap is_idle now ∙ ended)
 
-  pub section_left : IsAdmitted env.config.kind events
+  pub section_left : IsAdmitted events
       → IsInNoSection env.geometry (words_before M mix env events (behind_call past)) c
   section_left admitted =
       let stays = runs-in M mix env (take past_call.answered.last.index events) in
       let few = stays.few_enrolled in
       let below = can_step.below in
       in_no_section env mix M (take (behind_call past) events)
-      (taken (IsAdmittedEvent env.config.kind) (behind_call past) events admitted) c (omega (arith, below, few)) idle_behind
+      (taken IsAdmittedEvent (behind_call past) events admitted) c (omega (arith, below, few)) idle_behind

@@ -42,7 +42,7 @@ module _ (M : Type 0) (mix : ℕ → ℕ → ℕ → ℕ) (env : Env) (events : 
 
     -- so it holds of each of its calls that has ended
     pub kept_beside : (c : ℕ) → JobsKeepOwn M mix env First FirstEnded events c → KeepsBeside c
-        → IsAdmitted env.config.kind events
+        → IsAdmitted events
         → AllByRecursion (IsEndedSo M mix env Now Ended) ((traced_of {M = M} mix env events).traces c).past
     kept_beside c first keeps admitted =
         ended_beside ((traced_of {M = M} mix env events).traces c).past

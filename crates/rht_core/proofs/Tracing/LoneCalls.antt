@@ -49,7 +49,7 @@ spared_word words place did found (inr same) =
     (unchanged words did.op (ap (λ old. word_after old did.op) found ∙ same ∙ sym found))
 
 module _ (M : Type 0) (mix : ℕ → ℕ → ℕ → ℕ) (env : Env) (events : List Event) (c : ℕ) (past : Past)
-    (admitted : IsAdmitted env.config.kind events)
+    (admitted : IsAdmitted events)
     (ended : Contains ((traced_of {M = M} mix env events).traces c).past past)
     (alone : IsAloneDuring M mix env events c past) where
   -- the run behind so many events

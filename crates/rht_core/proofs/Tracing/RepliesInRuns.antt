@@ -83,7 +83,7 @@ module _ (M : Type 0) (mix : ℕ → ℕ → ℕ → ℕ) (env : Env) where
     pairs = right_pairs (call_of job) ending right.reply so.alone;
   }
 
-  pub runs-right : (events : List Event) (c : ℕ) → IsAdmitted env.config.kind events
+  pub runs-right : (events : List Event) (c : ℕ) → IsAdmitted events
       → let r : Traced M = traced_of mix env events in
       IsKeeping M mix env Holds Answered (view_of r.world c) (r.traces c)
   runs-right =

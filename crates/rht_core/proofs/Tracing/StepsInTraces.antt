@@ -149,14 +149,14 @@ module _ (M : Type 0) (mix : ℕ → ℕ → ℕ → ℕ) (env : Env) where
   at_rest-book None book steps none at = at
   at_rest-book (Some job) book steps none at = absurd (cc)
 
-  pub idle-book : (events : List Event) (c : ℕ) → IsAdmitted env.config.kind events
+  pub idle-book : (events : List Event) (c : ℕ) → IsAdmitted events
       → is_idle (local_of (R events).world.core c) ≡ true → IsBookOfIdle ((R events).world.books c)
   idle-book events c admitted idle =
       let local = local_of (R events).world.core c in
       at_rest-book (job_of local.doing) ((R events).world.books c) _ (sym (nothing-job local.doing) ∙ idle)
       (runs-right M mix env events c admitted).now
 
-  idle-none : (events : List Event) (c : ℕ) → IsAdmitted env.config.kind events
+  idle-none : (events : List Event) (c : ℕ) → IsAdmitted events
       → is_idle (local_of (R events).world.core c) ≡ true
       → ((R events).traces c).steps ≡ []
   idle-none events c admitted idle =
@@ -173,7 +173,7 @@ module _ (M : Type 0) (mix : ℕ → ℕ → ℕ → ℕ) (env : Env) where
       absurd (cc)
   at_work-call local op (Some job) book steps plan is at = (call_of job, at.call)
 
-  busy-call : (events : List Event) (c : ℕ) (op : Op) → IsAdmitted env.config.kind events
+  busy-call : (events : List Event) (c : ℕ) (op : Op) → IsAdmitted events
       → planned_in (R events).world.core c ≡ Some op
       → (call : Call) × (((R events).world.books c).call ≡ Some call)
   busy-call events c op admitted is =
@@ -182,7 +182,7 @@ module _ (M : Type 0) (mix : ℕ → ℕ → ℕ → ℕ) (env : Env) where
       at_work-call (local_of core c) op (job_of (local_of core c).doing) _ _ can.plan refl
       (runs-right M mix env events c admitted).now
 
-  module _ (events : List Event) (admitted : IsAdmitted env.config.kind events) (c : ℕ) (number : ℕ)
+  module _ (events : List Event) (admitted : IsAdmitted events) (c : ℕ) (number : ℕ)
       (did : Did)
       (stood : IsStepOf ((R events).traces c) number did) where
     abbrev r : Traced M
@@ -245,7 +245,7 @@ module _ (M : Type 0) (mix : ℕ → ℕ → ℕ → ℕ) (env : Env) where
       (c : ℕ) (did : Did) → IsRecorded M mix env events c did
       → IsStepOf ((R events).traces c) (calls_ended M mix env (take did.index events) c) did
 
-  module _ (events : List Event) (admitted : IsAdmitted env.config.kind events) (event : Event) (c : ℕ)
+  module _ (events : List Event) (admitted : IsAdmitted events) (event : Event) (c : ℕ)
       (did : Did)
       (recorded : IsRecorded M mix env (events ++ event ∷ []) c did) where
     abbrev more : List Event
@@ -314,12 +314,12 @@ module _ (M : Type 0) (mix : ℕ → ℕ → ℕ → ℕ) (env : Env) where
         number
         (newest-in (r.traces c) did busy.0 (ending_of next.0 next.1)))
 
-  all_stand : (events : List Event) → IsAdmitted env.config.kind events → AllStand events
+  all_stand : (events : List Event) → IsAdmitted events → AllStand events
   all_stand =
-      induct_by_last (λ events. IsAdmitted env.config.kind events → AllStand events)
+      induct_by_last (λ events. IsAdmitted events → AllStand events)
       (λ none c did recorded. let nothing = recorded.event in absurd (cc))
       (λ events event each all c did recorded.
-      let admitted = (AllByRecursion-cut (IsAdmittedEvent env.config.kind) events (event ∷ []) all).0 in
+      let admitted = (AllByRecursion-cut IsAdmittedEvent events (event ∷ []) all).0 in
       let within = slice_get_within (events ++ event ∷ []) did.index (Step c) recorded.event in
       let longer = length_push events event in
       let stands : IsStepOf (traces_after mix (R events) event c) (calls_ended M mix env (take did.index (events ++ event ∷ [])) c) did =
@@ -532,7 +532,7 @@ before_end from (first ∷ front) rest past last (suc number) did order rising h
     record { steps = is.steps; call = is.call; stands = is.stands }
 
 module _ (M : Type 0) (mix : ℕ → ℕ → ℕ → ℕ) (env : Env) (events : List Event) (c : ℕ)
-    (admitted : IsAdmitted env.config.kind events) where
+    (admitted : IsAdmitted events) where
   abbrev trace : Trace
   trace = (traced_of {M = M} mix env events).traces c
 

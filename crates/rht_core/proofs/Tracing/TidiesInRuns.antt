@@ -133,7 +133,7 @@ module _ (M : Type 0) (mix : ℕ → ℕ → ℕ → ℕ) (env : Env) where
     begun-asked batch =
         begins_so M env c batch (λ call machine. Some call ≡ Some Tidy → (m : TidyModel) × (machine ≡ Tidying m))
         (λ port is. absurd (cc)) (λ port owner once is. absurd (cc)) (λ port is. absurd (cc)) (λ port owner is. absurd (cc))
-        (λ port owner new single is. absurd (cc)) (λ is. absurd (cc)) (λ is. absurd (cc))
+        (λ port owner new is. absurd (cc)) (λ is. absurd (cc)) (λ is. absurd (cc))
         (λ own has is. (tidy_new env.geometry own, refl)) (λ from limit is. absurd (cc))
 
     begun-come : (batch : Option BatchModel) (call : Call) (machine : Doing M) → machine_of env c batch call ≡ Some machine
@@ -143,7 +143,7 @@ module _ (M : Type 0) (mix : ℕ → ℕ → ℕ → ℕ) (env : Env) where
         begins_so M env c batch
         (λ call machine. (m : TidyModel) → machine ≡ Tidying m → IsOn (batch_or env.geometry batch) m [])
         (λ port m is. absurd (cc)) (λ port owner once m is. absurd (cc)) (λ port m is. absurd (cc)) (λ port owner m is. absurd (cc))
-        (λ port owner new single m is. absurd (cc)) (λ m is. absurd (cc)) (λ m is. absurd (cc))
+        (λ port owner new m is. absurd (cc)) (λ m is. absurd (cc)) (λ m is. absurd (cc))
         (λ own has m is.
         let here : tidy_new env.geometry own ≡ m = cc in
         subst (λ (n : TidyModel). IsOn (batch_or env.geometry batch) n []) here
@@ -454,7 +454,7 @@ module _ (M : Type 0) (mix : ℕ → ℕ → ℕ → ℕ) (env : Env) where
           (subst (λ d. IsMade M mix env so_far d view.local did) mine made) (keeps mine (Step k ∷ rest) next);
     }
 
-  kept_so : (events : List Event) (c : ℕ) (admitted : IsAdmitted env.config.kind events)
+  kept_so : (events : List Event) (c : ℕ) (admitted : IsAdmitted events)
       → let r = traced_of {M = M} mix env events in Keeps events c (sound_before env mix M events c admitted) (view_of r.world c) (r.traces c)
   kept_so events c admitted =
       let sound = sound_before env mix M events c admitted in

@@ -85,7 +85,7 @@ module _ (M : Type 0) (mix : ℕ → ℕ → ℕ → ℕ) (env : Env) where
       subst (λ (w : World M). StaysIn M mix env w.core) (sym (world-traced_of M mix env events))
       (runs-in M mix env events)
 
-  pub inv_now : (events : List Event) → IsAdmitted env.config.kind events
+  pub inv_now : (events : List Event) → IsAdmitted events
       → HasInv env mix M (R events).world.core
   inv_now events admitted =
       subst (λ (w : World M). HasInv env mix M w.core) (sym (world-traced_of M mix env events))
@@ -100,7 +100,7 @@ module _ (M : Type 0) (mix : ℕ → ℕ → ℕ → ℕ) (env : Env) where
         (R events).world.core.words op;
   }
 
-  did_next-made : (events : List Event) (c : ℕ) (op : Op) → IsAdmitted env.config.kind events
+  did_next-made : (events : List Event) (c : ℕ) (op : Op) → IsAdmitted events
       → planned_by c (R events).world ≡ Some op
       → IsMade events c (local_of (R events).world.core c) (did_next events op)
   did_next-made events c op admitted is =
@@ -147,7 +147,7 @@ module _ (M : Type 0) (mix : ℕ → ℕ → ℕ → ℕ) (env : Env) where
       ≡ word_at env.geometry (R events).world.core.words (Section c)
 
   -- as each does that is none of its operations
-  pub section_stays : (events : List Event) → IsAdmitted env.config.kind events → (event : Event) → IsAdmittedEvent env.config.kind event → (c : ℕ)
+  pub section_stays : (events : List Event) → IsAdmitted events → (event : Event) → IsAdmittedEvent event → (c : ℕ)
       → IsOthers env mix M (R events).world.core event c → SectionStays events event c
   section_stays events admitted event may c others few =
       let has = inv_now events admitted in
@@ -161,7 +161,7 @@ module _ (M : Type 0) (mix : ℕ → ℕ → ℕ → ℕ) (env : Env) where
     pub record IsKeptBeside : Type 0 where
       pub opens : (c : ℕ) → P [] c (record { local = fresh env; book = new_book }) no_trace
       pub stays : (events : List Event) (event : Event) (c : ℕ) (view : View M) (trace : Trace)
-          → IsAdmitted env.config.kind events → IsAdmittedEvent env.config.kind event
+          → IsAdmitted events → IsAdmittedEvent event
           → IsOthers env mix M (R events).world.core event c → view ≡ view_of (R events).world c → P events c view trace
           → P (events ++ event ∷ []) c view trace
       pub begins : (events : List Event) (c : ℕ) (call : Call) (machine : Doing M) (index : ℕ)
@@ -180,7 +180,7 @@ module _ (M : Type 0) (mix : ℕ → ℕ → ℕ → ℕ) (env : Env) where
     abbrev AllKeep : List Event → Traced M → Type 0
     AllKeep events r = (k : ℕ) → P events k (view_of r.world k) (r.traces k)
 
-    module _ (kept : IsKeptBeside) (events : List Event) (admitted : IsAdmitted env.config.kind events)
+    module _ (kept : IsKeptBeside) (events : List Event) (admitted : IsAdmitted events)
         (each : AllKeep events (R events)) where
       abbrev r : Traced M
       r = R events
@@ -193,7 +193,7 @@ module _ (M : Type 0) (mix : ℕ → ℕ → ℕ → ℕ) (env : Env) where
           subst (P more c before) (sym trace_is) (subst (λ s. P more c s trace) (sym seen_is) p)
 
       -- where they are as before
-      stay : (event : Event) → IsAdmittedEvent env.config.kind event → (k : ℕ) (here : View M) (trace : Trace)
+      stay : (event : Event) → IsAdmittedEvent event → (k : ℕ) (here : View M) (trace : Trace)
           → IsOthers env mix M r.world.core event k → here ≡ view_of r.world k
           → trace ≡ r.traces k
           → P (events ++ event ∷ []) k here trace
@@ -201,7 +201,7 @@ module _ (M : Type 0) (mix : ℕ → ℕ → ℕ → ℕ) (env : Env) where
           put (events ++ event ∷ []) k (view_of r.world k) here trace (r.traces k) seen_is trace_is
           (kept.stays events event k (view_of r.world k) (r.traces k) admitted may others refl (each k))
 
-      begins : (c : ℕ) (call : Call) (machine : Option (Doing M)) → IsAdmittedEvent env.config.kind (Begin c call)
+      begins : (c : ℕ) (call : Call) (machine : Option (Doing M)) → IsAdmittedEvent (Begin c call)
           → beginning_in r.world.core c call ≡ machine
           → AllKeep (events ++ Begin c call ∷ []) (traced_step mix r (Begin c call))
       begins c call None may is k =
@@ -230,7 +230,7 @@ module _ (M : Type 0) (mix : ℕ → ℕ → ℕ → ℕ) (env : Env) where
                 (trace_begin_other M mix r c call k other)
           ]
 
-      steps : (c : ℕ) (op : Option Op) → IsAdmittedEvent env.config.kind (Step c) → planned_by c r.world ≡ op
+      steps : (c : ℕ) (op : Option Op) → IsAdmittedEvent (Step c) → planned_by c r.world ≡ op
           → AllKeep (events ++ Step c ∷ []) (traced_step mix r (Step c))
       steps c None may is k =
           stay (Step c) may k _ _ (inr is) (ap (λ (v : World M). view_of v k) (step_none M mix r.world c is))
@@ -254,23 +254,23 @@ module _ (M : Type 0) (mix : ℕ → ℕ → ℕ → ℕ) (env : Env) where
           ]
 
       -- an event keeps it of every caller
-      event_keeps : (event : Event) → IsAdmittedEvent env.config.kind event → AllKeep (events ++ event ∷ []) (traced_step mix r event)
+      event_keeps : (event : Event) → IsAdmittedEvent event → AllKeep (events ++ event ∷ []) (traced_step mix r event)
       event_keeps Enroll may k = stay Enroll may k _ _ tt refl refl
       event_keeps (Begin c call) may k =
           begins c call (beginning_in r.world.core c call) may refl k
       event_keeps (Step c) may k = steps c (planned_by c r.world) may refl k
 
     -- so it holds of every caller in every run
-    pub traced_callers_keep_beside : IsKeptBeside → (events : List Event) (c : ℕ) → IsAdmitted env.config.kind events
+    pub traced_callers_keep_beside : IsKeptBeside → (events : List Event) (c : ℕ) → IsAdmitted events
         → P events c (view_of (R events).world c) ((R events).traces c)
     traced_callers_keep_beside kept events c admitted =
-        induct_by_last (λ es. IsAdmitted env.config.kind es → AllKeep es (R es))
+        induct_by_last (λ es. IsAdmitted es → AllKeep es (R es))
         (λ none k.
         each_replicate (λ (local : Local M). P [] k (record { local = local; book = new_book }) no_trace)
         env.geometry.callers k (fresh env)
         (kept.opens k))
         (λ es event each all.
-        let parts = AllByRecursion-cut (IsAdmittedEvent env.config.kind) es (event ∷ []) all in
+        let parts = AllByRecursion-cut IsAdmittedEvent es (event ∷ []) all in
         subst (AllKeep (es ++ event ∷ [])) (sym (traced_of-push M mix env es event))
         (event_keeps kept es parts.0 (each parts.0) event parts.1.0))
         events admitted c
@@ -293,7 +293,7 @@ module _ (M : Type 0) (mix : ℕ → ℕ → ℕ → ℕ) (env : Env) where
           P (events ++ Step c ∷ []) c (view_stepped mix did.old view)
           (trace_did view.book.call did (ending_of next.0 next.1) trace)
 
-    pub traced_callers_keep : IsKeptTraced → (events : List Event) (c : ℕ) → IsAdmitted env.config.kind events
+    pub traced_callers_keep : IsKeptTraced → (events : List Event) (c : ℕ) → IsAdmitted events
         → P events c (view_of (R events).world c) ((R events).traces c)
     traced_callers_keep kept =
         traced_callers_keep_beside record {

@@ -327,7 +327,7 @@ module _ (M : Type 0) (mix : ℕ → ℕ → ℕ → ℕ) (env : Env) (Now : Job
 
       -- an operation stands in the run
       stands_in : (past rest : List Event) (c : ℕ) (job : Job) (steps : List Did) (did : Did) (performs : Performs mix env job did)
-          → IsAdmitted env.config.kind events → events ≡ past ++ Steps c ∷ rest → did.index ≡ length past
+          → IsAdmitted events → events ≡ past ++ Steps c ∷ rest → did.index ≡ length past
           → IsRecorded M mix env (past ++ Steps c ∷ []) c did
           → performs.words ≡ (run_of {M = M} mix env past).core.words
           → Inv env mix M (run_of mix env past).core performs.ghost
@@ -336,7 +336,7 @@ module _ (M : Type 0) (mix : ℕ → ℕ → ℕ → ℕ) (env : Env) (Now : Job
           → StandsInStage env.geometry (words_before M mix env events) (stage_of job) steps did.old
           → StandsIn mix env (words_before M mix env events) job steps did performs
       stands_in past rest c job steps did performs admitted all is recorded here inv stayed calm giving =
-          let stay = buckets-stay env mix M performs.caller performs.few past (Steps c ∷ rest) performs.ghost inv (subst (IsAdmitted env.config.kind) all admitted) in
+          let stay = buckets-stay env mix M performs.caller performs.few past (Steps c ∷ rest) performs.ghost inv (subst IsAdmitted all admitted) in
           record {
             now = here ∙ words_now past (Steps c ∷ rest) did.index all is;
             next = ap (λ ws. applied ws did.op) here ∙ words_next past rest c did all is recorded;
@@ -360,12 +360,12 @@ module _ (M : Type 0) (mix : ℕ → ℕ → ℕ → ℕ) (env : Env) (Now : Job
       abbrev GivesSoFar : List Event → Option Job → List Did → Type 0
       GivesSoFar past job steps = KeepsInStage env mix M (words_before M mix env events) past (stage_now job) steps
 
-      past_admitted : (past rest : List Event) → IsAdmitted env.config.kind events → events ≡ past ++ rest → IsAdmitted env.config.kind past
+      past_admitted : (past rest : List Event) → IsAdmitted events → events ≡ past ++ rest → IsAdmitted past
       past_admitted past rest admitted all =
-          (AllByRecursion-cut (IsAdmittedEvent env.config.kind) past rest (subst (IsAdmitted env.config.kind) all admitted)).0
+          (AllByRecursion-cut IsAdmittedEvent past rest (subst IsAdmitted all admitted)).0
 
       -- an event beside an operation of the caller leaves it
-      gives-beside : (past : List Event) (event : Event) (c : ℕ) (here : View M) (steps : List Did) → IsAdmitted env.config.kind past
+      gives-beside : (past : List Event) (event : Event) (c : ℕ) (here : View M) (steps : List Did) → IsAdmitted past
           → IsOthers env mix M (traced_of mix env past).world.core event c → here ≡ view_of (traced_of mix env past).world c
           → GivesSoFar past (job_of here.local.doing) steps → GivesSoFar (past ++ event ∷ []) (job_of here.local.doing) steps
       gives-beside past event c here steps admitted others seen gives =
@@ -375,7 +375,7 @@ module _ (M : Type 0) (mix : ℕ → ℕ → ℕ → ℕ) (env : Env) (Now : Job
           event (subst (λ (w : World M). IsOthers env mix M w.core event c) same others) steps gives
 
       -- of an operation of its own it is known before it, and behind it
-      gives-stands : (past : List Event) (c : ℕ) (did : Did) (here : View M) (steps : List Did) → IsAdmitted env.config.kind past
+      gives-stands : (past : List Event) (c : ℕ) (did : Did) (here : View M) (steps : List Did) → IsAdmitted past
           → IsMade M mix env past c here.local did → (job : Job) → job_of here.local.doing ≡ Some job
           → GivesSoFar past (job_of here.local.doing) steps
           → StandsInStage env.geometry (words_before M mix env events) (stage_of job) steps did.old
@@ -389,7 +389,7 @@ module _ (M : Type 0) (mix : ℕ → ℕ → ℕ → ℕ) (env : Env) (Now : Job
       gives-told past call did trace (job, Go) gives = gives
       gives-told past call did trace (job, Done ending) gives = tt
 
-      gives-made : (past rest : List Event) (c : ℕ) (did : Did) (here : View M) (trace : Trace) → IsAdmitted env.config.kind events
+      gives-made : (past rest : List Event) (c : ℕ) (did : Did) (here : View M) (trace : Trace) → IsAdmitted events
           → events ≡ past ++ Steps c ∷ rest → IsMade M mix env past c here.local did → HasLists here.local here.book
           → GivesSoFar past (job_of here.local.doing) trace.steps
           → let next = local_after mix here.local did.old in
@@ -412,7 +412,7 @@ module _ (M : Type 0) (mix : ℕ → ℕ → ℕ → ℕ) (env : Env) (Now : Job
           → ((job : Job) (performs : Performs mix env job did) → performs.caller ≡ own
           → StandsIn mix env (words_before M mix env events) job trace.steps did performs → Before job trace.steps
           → LeadsOn job (trace.steps ++ did ∷ []) (job_after mix env job did.old))
-          → IsAdmitted env.config.kind events → events ≡ past ++ Steps c ∷ rest
+          → IsAdmitted events → events ≡ past ++ Steps c ∷ rest
           → IsMade M mix env past c here.local did → c ≡ own → AllByRecursion IsEndedSo trace.past
           → IsAtJobOf Before (job_of here.local.doing) here.book trace.steps → HasLists here.local here.book
           → UnturnedTo env.geometry (words_before M mix env events) c trace.steps (length past)
@@ -510,8 +510,8 @@ module _ (M : Type 0) (mix : ℕ → ℕ → ℕ → ℕ) (env : Env) (Now : Job
 
 -- Behind these events this one comes, which is none of the caller's operations, while the caller does this job.
 pub record IsBeside (M : Type 0) (mix : ℕ → ℕ → ℕ → ℕ) (env : Env) (past : List Event) (event : Event) (c : ℕ) (job : Job) : Type 0 where
-  pub admitted : IsAdmitted env.config.kind past
-  pub may : IsAdmittedEvent env.config.kind event
+  pub admitted : IsAdmitted past
+  pub may : IsAdmittedEvent event
   pub others : IsOthers env mix M (run_of mix env past).core event c
   pub does : job_of (local_of (run_of {M = M} mix env past).core c).doing ≡ Some job
 
@@ -545,7 +545,7 @@ module _ (M : Type 0) (mix : ℕ → ℕ → ℕ → ℕ) (env : Env) (NowAt : �
           × gives_at past (job_of here.local.doing) trace.steps
 
       beside-now : (past : List Event) (event : Event) (rest : List Event) → events ≡ past ++ event ∷ rest
-          → IsAdmitted env.config.kind past → IsAdmittedEvent env.config.kind event
+          → IsAdmitted past → IsAdmittedEvent event
           → IsOthers env mix M (run_of mix env past).core event own
           → (job : Option Job) → job_of (local_of (run_of {M = M} mix env past).core own).doing ≡ job → (book : Book) (steps : List Did)
           → IsAtJobOf (NowAt (length past)) job book steps → IsAtJobOf (NowAt (length past + 1)) job book steps
@@ -556,7 +556,7 @@ module _ (M : Type 0) (mix : ℕ → ℕ → ℕ → ℕ) (env : Env) (NowAt : �
       }
 
       beside-keeping : (past : List Event) (event : Event) (rest : List Event) (here : View M) (trace : Trace) → events ≡ past ++ event ∷ rest
-          → IsAdmitted env.config.kind past → IsAdmittedEvent env.config.kind event
+          → IsAdmitted past → IsAdmittedEvent event
           → IsOthers env mix M (traced_of mix env past).world.core event own → here ≡ view_of (traced_of mix env past).world own
           → IsKeepingAt (length past) here trace → IsKeepingAt (length past + 1) here trace
       beside-keeping past event rest here trace all admitted may others seen kept =
@@ -572,7 +572,7 @@ module _ (M : Type 0) (mix : ℕ → ℕ → ℕ → ℕ) (env : Env) (NowAt : �
             lists = kept.lists;
           }
 
-      keeps : IsAdmitted env.config.kind events → IsKeptBeside M mix env IsKeepingSoFar
+      keeps : IsAdmitted events → IsKeptBeside M mix env IsKeepingSoFar
       keeps admitted = record {
         opens = λ c mine rest all. (
           record {
@@ -630,7 +630,7 @@ module _ (M : Type 0) (mix : ℕ → ℕ → ℕ → ℕ) (env : Env) (NowAt : �
       }
 
       -- so what its jobs keep holds of its calls
-      pub jobs_keep_beside : IsAdmitted env.config.kind events
+      pub jobs_keep_beside : IsAdmitted events
           → let r : Traced M = traced_of mix env events in IsKeepingAt (length events) (view_of r.world own) (r.traces own)
       jobs_keep_beside admitted =
           (traced_callers_keep_beside M mix env IsKeepingSoFar (keeps admitted) events own admitted refl [] (sym (append-nil events))).0
@@ -643,7 +643,7 @@ module _ (M : Type 0) (mix : ℕ → ℕ → ℕ → ℕ) (env : Env) (Now : Job
     abbrev Keeping : View M → Trace → Type 0
     Keeping = IsKeeping M mix env Now Ended
 
-    pub jobs_keep_own : (events : List Event) (own : ℕ) → JobsKeepOwn M mix env Now Ended events own → IsAdmitted env.config.kind events
+    pub jobs_keep_own : (events : List Event) (own : ℕ) → JobsKeepOwn M mix env Now Ended events own → IsAdmitted events
         → let r : Traced M = traced_of mix env events in Keeping (view_of r.world own) (r.traces own)
     jobs_keep_own events own keep =
         jobs_keep_beside M mix env (λ n. Now) Ended events own record {
@@ -653,7 +653,7 @@ module _ (M : Type 0) (mix : ℕ → ℕ → ℕ → ℕ) (env : Env) (Now : Job
         }
 
     -- where it doesn't matter whose they are, it holds of the calls of every caller
-    pub jobs_keep_standing : (events : List Event) → JobsKeepStanding M mix env Now Ended events → (c : ℕ) → IsAdmitted env.config.kind events
+    pub jobs_keep_standing : (events : List Event) → JobsKeepStanding M mix env Now Ended events → (c : ℕ) → IsAdmitted events
         → let r : Traced M = traced_of mix env events in Keeping (view_of r.world c) (r.traces c)
     jobs_keep_standing events keep c =
         jobs_keep_own events c record {
@@ -662,7 +662,7 @@ module _ (M : Type 0) (mix : ℕ → ℕ → ℕ → ℕ) (env : Env) (Now : Job
         }
 
     -- where the words alone are asked for
-    pub jobs_keep_in : (events : List Event) → JobsKeepIn M mix env Now Ended events → (c : ℕ) → IsAdmitted env.config.kind events
+    pub jobs_keep_in : (events : List Event) → JobsKeepIn M mix env Now Ended events → (c : ℕ) → IsAdmitted events
         → let r : Traced M = traced_of mix env events in Keeping (view_of r.world c) (r.traces c)
     jobs_keep_in events keep c =
         jobs_keep_standing events record {
@@ -671,7 +671,7 @@ module _ (M : Type 0) (mix : ℕ → ℕ → ℕ → ℕ) (env : Env) (Now : Job
         } c
 
     -- in every run, where it doesn't depend on the run
-    pub jobs_keep : JobsKeep M mix env Now Ended → (events : List Event) (c : ℕ) → IsAdmitted env.config.kind events
+    pub jobs_keep : JobsKeep M mix env Now Ended → (events : List Event) (c : ℕ) → IsAdmitted events
         → let r : Traced M = traced_of mix env events in Keeping (view_of r.world c) (r.traces c)
     jobs_keep keep events c =
         jobs_keep_in events record {

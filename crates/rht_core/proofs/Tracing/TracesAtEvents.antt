@@ -237,7 +237,7 @@ module _ (M : Type 0) (mix : ℕ → ℕ → ℕ → ℕ) (env : Env) where
         progress = tt;
       }
 
-  all-hold : (events : List Event) (c : ℕ) → IsAdmitted env.config.kind events
+  all-hold : (events : List Event) (c : ℕ) → IsAdmitted events
       → let r : Traced M = traced_of mix env events in Holds events c (r.world.books c).call (r.traces c)
   all-hold =
       traced_callers_keep M mix env (λ events c here trace. Holds events c here.book.call trace)

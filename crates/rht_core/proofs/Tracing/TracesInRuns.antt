@@ -45,7 +45,7 @@ did-of did (Some ending) book trace of =
     }
 
 pub traces_of_books : (M : Type 0) (mix : ℕ → ℕ → ℕ → ℕ) (env : Env) (events : List Event) (c : ℕ)
-    → IsAdmitted env.config.kind events → let r : Traced M = traced_of mix env events in IsTraceOf
+    → IsAdmitted events → let r : Traced M = traced_of mix env events in IsTraceOf
     (r.world.books c) (r.traces c)
 traces_of_books M mix env =
     traced_callers_keep M mix env (λ past c here trace. IsTraceOf here.book trace)

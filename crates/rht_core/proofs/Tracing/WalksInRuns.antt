@@ -11,7 +11,7 @@ use Rattle.rht_words.specs.Machines.{Performed, Ran, ran, went_on}
 use Rattle.rht_words.specs.Shapes.{unpacked, size_of}
 use Rattle.rht_words.proofs.EachElement.{AllByRecursion-weaker}
 use Rattle.rht_model.specs.declared.history.Call.{Call}
-use Rattle.rht_model.specs.declared.history.Call.TheVariants.{Rebind, Walk, Tidy}
+use Rattle.rht_model.specs.declared.history.Call.TheVariants.{Walk, Tidy}
 use Rattle.rht_model.specs.declared.history.Cursor.{Cursor}
 use Rattle.rht_model.specs.declared.history.Reply.{Reply}
 use Rattle.rht_model.specs.Endings.{Ending, ending_in}
@@ -30,7 +30,7 @@ use Rattle.rht_core.specs.Lookups.{shape_found, IsShortWalk, WalksSoon}
 use Rattle.rht_core.specs.Runs.{IsAdmitted}
 use Rattle.rht_core.specs.Traces.{Did, Past, performed_of, traced_of}
 use Rattle.rht_core.specs.WalkCauses.{SawForWalk}
-use Rattle.rht_core.proofs.Events.JobsOfCallers.{first_rebind-so, first_tidy-so, each_goes, same_call, first-of}
+use Rattle.rht_core.proofs.Events.JobsOfCallers.{first_tidy-so, each_goes, same_call, first-of}
 use Rattle.rht_core.proofs.Tracing.TracedJobs.{Performs, LeadsOn, IsAtJob, jobs_keep_own}
 
 abbrev with_steps : List Performed → Next Shown → Ran Shown
@@ -150,7 +150,6 @@ module _ (mix : ℕ → ℕ → ℕ → ℕ) (env : Env) (c : ℕ) where
   other-ended _ ending steps other = tt
 
   first-now : (call : Call) (batch : Option BatchModel) → IfSome (first_job env batch call) (λ job. Now job [])
-  first-now (Rebind port owner new) batch = first_rebind-so (λ job. Now job []) env port owner new tt
   first-now (Walk from limit) batch = λ olds. refl
   first-now Tidy batch = first_tidy-so (λ job. Now job []) batch (λ own. tt)
   first-now _ batch = tt
@@ -197,7 +196,7 @@ HasWalked env c past =
     (from : Option Cursor) (limit : ℕ) → past.done.call ≡ Walk from limit
     → SawForWalk env c from limit past.done.reply past.done.pairs past.steps
 
-pub walked : (L : Type 0) (mix : ℕ → ℕ → ℕ → ℕ) (env : Env) (events : List Event) (c : ℕ) → IsAdmitted env.config.kind events
+pub walked : (L : Type 0) (mix : ℕ → ℕ → ℕ → ℕ) (env : Env) (events : List Event) (c : ℕ) → IsAdmitted events
     → AllByRecursion (HasWalked env c) ((traced_of {M = L} mix env events).traces c).past
 walked L mix env events c admitted =
     AllByRecursion-weaker (EndedSo mix env c) (HasWalked env c)

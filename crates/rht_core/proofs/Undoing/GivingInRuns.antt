@@ -13,7 +13,7 @@ use Rattle.rht_words.specs.declared.op.Op.{Op}
 use Rattle.rht_words.specs.Operations.{old_of}
 use Rattle.rht_words.specs.Places.{Slot, StateWord, word_at}
 use Rattle.rht_model.specs.declared.history.Call.{Call}
-use Rattle.rht_model.specs.declared.history.Call.TheVariants.{Rebind, Tidy}
+use Rattle.rht_model.specs.declared.history.Call.TheVariants.{Tidy}
 use Rattle.rht_model.specs.Endings.{Ending}
 use Rattle.rht_nest.specs.Place.{top_page}
 use Rattle.rht_grace.specs.Batch.{BatchModel}
@@ -38,7 +38,7 @@ use Rattle.rht_ghost.proofs.Theory.GivingStays.{retired-within}
 use Rattle.rht_ghost.proofs.Theory.Knowledge.{WorkMeans, MakingMeans}
 use Rattle.rht_ghost.proofs.Theory.Steps.{mem}
 use Rattle.rht_core.proofs.Machines.JobSteps.{JobIn, JobKnows}
-use Rattle.rht_core.proofs.Events.JobsOfCallers.{first-of, first_rebind-so, first_tidy-so}
+use Rattle.rht_core.proofs.Events.JobsOfCallers.{first-of, first_tidy-so}
 use Rattle.rht_core.proofs.Events.Worlds.{run_of-push}
 use Rattle.rht_core.proofs.Events.RangesInRuns.{AllIn, runs-all}
 use Rattle.rht_core.proofs.Events.Invariants.{Inv, Knows, kept}
@@ -175,8 +175,6 @@ module _ (env : Env) (mix : ℕ → ℕ → ℕ → ℕ) where
     -- a call begins at the lock, or behind it
     first_stage : (past : List Event) (steps : List Did) (call : Call) (batch : Option BatchModel)
         → IfSome (first_job env batch call) (λ job. KeepsInStage past (stage_of job) steps)
-    first_stage past steps (Rebind port owner new) batch =
-        first_rebind-so (λ job. KeepsInStage past (stage_of job) steps) env port owner new tt
     first_stage past steps Tidy batch = first_tidy-so (λ job. KeepsInStage past (stage_of job) steps) batch (λ own. tt)
     first_stage past steps _ batch = tt
 
@@ -360,7 +358,7 @@ module _ (env : Env) (mix : ℕ → ℕ → ℕ → ℕ) where
     keeps_beside past all c (Some job) does event others steps keeps = keeps_others past all c job does event others steps keeps
 
     -- and one that is
-    module _ (past : List Event) (admitted : IsAdmitted env.config.kind past) (c : ℕ) (local : Local L) (did : Did)
+    module _ (past : List Event) (admitted : IsAdmitted past) (c : ℕ) (local : Local L) (did : Did)
         (made : IsMade L mix env past c local did) (job : Job) (is : job_of local.doing ≡ Some job) (steps : List Did) where
       all_now : AllIn L mix env (core_of past)
       all_now = runs-all L mix env past admitted

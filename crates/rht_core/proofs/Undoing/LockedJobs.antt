@@ -17,6 +17,9 @@ use Rattle.rht_chain.specs.declared.unlock.Unlock.{Unlock}
 use Rattle.rht_release.specs.Seek.{SeekModel, seek_plan_at, lock_of_seek}
 use Rattle.rht_release.specs.declared.seek.SeekAt.{SeekAt}
 use Rattle.rht_release.specs.declared.seek.SeekAt.TheVariants as seeks
+use Rattle.rht_release.specs.ListSearch.{search_plan}
+use Rattle.rht_release.specs.declared.list_search.ListSearch.{ListSearch}
+use Rattle.rht_release.specs.declared.list_search.ListSearch.TheVariants as searches
 use Rattle.rht_release.specs.All as all_at
 use Rattle.rht_release.specs.AllHeld.{held_of_all}
 use Rattle.rht_release.specs.declared.all.AllAt.{AllAt}
@@ -43,6 +46,10 @@ module _ (env : Env) (mix : ℕ → ℕ → ℕ → ℕ) (c : ℕ) (op : Op) (ol
   walk-leaves : (h : Geometry) (state : LockedWalkAt) → op ≡ walk_plan_at h state → LeavesBits op old
   walk-leaves h (walks.Key node) is = load-leaves _ is
   walk-leaves h (walks.ChainLink node) is = load-leaves _ is
+
+  search-leaves : (h : Geometry) (search : ListSearch) → op ≡ search_plan h search → LeavesBits op old
+  search-leaves h (searches.Owner node before) is = load-leaves _ is
+  search-leaves h (searches.ListLink node) is = load-leaves _ is
 
   probe-leaves : (state : ProbeAt) → op ≡ probe_plan_at state → lock_of_probe state ≢ None → LeavesBits op old
   probe-leaves (probes.Locking lock) is locked = absurd (locked refl)
@@ -92,6 +99,7 @@ module _ (env : Env) (mix : ℕ → ℕ → ℕ → ℕ) (c : ℕ) (op : Op) (ol
       → (held_of_release state).lock ≢ None → LeavesOrDrops (releases port owner state)
   release-leaves port owner (releasing.Seeking seek) may is locked =
       seek-leaves (ReleaseDrops port owner seek.geometry) seek.geometry seek.at is locked (release-drops port owner seek.geometry)
+  release-leaves port owner (releasing.Searching found search) may is locked = inl (search-leaves env.geometry search is)
   release-leaves port owner (releasing.CuttingOut found node before link) may is locked = absurd (cc)
   release-leaves port owner (releasing.SecondLink found second link) may is locked = absurd (cc)
   release-leaves port owner (releasing.Promoting found relink) may is locked = absurd (cc)

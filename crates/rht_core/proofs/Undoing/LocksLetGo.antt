@@ -37,7 +37,7 @@ use Rattle.rht_ghost.proofs.Theory.Ghosts.{Ghost}
 use Rattle.rht_ghost.proofs.Theory.Steps.{Holding, mem, Does, Move, TakesNode, GivesNode, Links, Rebinds, SaysChange}
 use Rattle.rht_core.proofs.Machines.JobSteps.{JobIn}
 use Rattle.rht_core.proofs.Machines.NeverHeld.{tableless, front-tableless, pageless}
-use Rattle.rht_core.proofs.Events.JobsOfCallers.{same_call, first_holds, first_without, first-of, first_rebind-so, first_tidy-so}
+use Rattle.rht_core.proofs.Events.JobsOfCallers.{same_call, first_holds, first_without, first-of, first_tidy-so}
 use Rattle.rht_core.proofs.Events.SectionsInRuns.{SparesSections, odd_by, by_move}
 use Rattle.rht_core.proofs.Tracing.TracedJobs.{Performs, LeadsOn, IsEndedSo}
 use Rattle.rht_core.proofs.Tracing.JobsBeside.{kept_beside}
@@ -62,7 +62,7 @@ use Rattle.rht_words.specs.Held as held
 use Rattle.rht_grace.specs.Batch.{BatchModel}
 use Rattle.std.specs.Prelude.{Option, IfSome}
 use Rattle.rht_core.specs.Returned.{IsReturn}
-use Rattle.rht_model.specs.declared.history.Call.TheVariants.{Rebind, Work, Tidy}
+use Rattle.rht_model.specs.declared.history.Call.TheVariants.{Work, Tidy}
 use Rattle.rht_core.proofs.Undoing.LocksTurned.{IsLockPlace, lock_bits, Turning, EntersHere, turns_evenly}
 
 -- ---- which job enters a page
@@ -438,8 +438,6 @@ module _ (M : Type 0) (mix : ℕ → ℕ → ℕ → ℕ) (env : Env) (events : 
   none_turned call place at = inr (inl refl)
 
   first-turned : (call : Call) (batch : Option BatchModel) → IfSome (first_job env batch call) (λ job. TurnedInStage (stage_of job) job [])
-  first-turned (Rebind port owner new) batch =
-      first_rebind-so (λ job. TurnedInStage (stage_of job) job []) env port owner new (none_turned (Rebind port owner new))
   first-turned Tidy batch = first_tidy-so (λ job. TurnedInStage (stage_of job) job []) batch (λ own. none_turned Tidy)
   first-turned Work batch = tt
   first-turned call batch = none_turned call

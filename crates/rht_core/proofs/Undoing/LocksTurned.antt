@@ -349,7 +349,8 @@ module _ {env : Env} {mix : ℕ → ℕ → ℕ → ℕ} (step : Turning env mix
       locked : IsRebinding env mix change (mem env mix step.words) step.ghost → lock_bit (step.ghost.bucket change.place).holder ≡ 1
       locked (inl unlinks) = unlinks.locked
       locked (inr (inl replaces)) = replaces.locked
-      locked (inr (inr shortens)) = shortens.locked
+      locked (inr (inr (inl shortens))) = shortens.locked
+      locked (inr (inr (inr swaps))) = swaps.locked
 
   -- a section word is kept in a slot
   keep_word : (s d word : ℕ) → DoesKeepWord g s d word step.did.op step.before (bare step.after) → (place : ℕ) → IsLockPlace g place

@@ -1,7 +1,7 @@
 -- The states behind which a call ends with no refusal any more, nor with another reply that says that nothing was changed. In such a state
--- is a bind and a rebind that publish their node, a release that takes its node out, and a resizing that has made its table or finds one to
--- move; and each stays so while it closes its section. So is a tidying that gives nodes back. Look-ups, listings and readings of the count
--- come to none.
+-- is a bind that publishes its node, a release and a rebind that have found the node that they take out, and a resizing that has made its
+-- table or finds one to move; and each stays so while it closes its section. So is a tidying that gives nodes back. Look-ups, listings and
+-- readings of the count come to none.
 use Rattle.std.proofs.Common.{◌≡◌, ◌≢◌, ℕ, ◌+◌, ◌==◌, Bool, true, false, Option, Some, None, refl, nat_lt, length}
 use Rattle.std.proofs.lemmas.Bool.{cond_both}
 use Rattle.rht_words.specs.declared.env.Env.{Env}
@@ -95,20 +95,23 @@ bind_is_past (binding.Unmaking attempt unmake answer) = false
 bind_is_past (binding.Closing ending) = ending_is_past ending
 bind_is_past (binding.Giving give reply) = false
 
--- and a rebind where it has put its node in another one's place
+-- and a rebind where its end is that it has put its node in another one's place
 abbrev pub end_is_past : RebindEnd → Bool
 end_is_past (rebind_ends.Rebound removed) = true
 end_is_past (rebind_ends.Absent node) = false
 
 abbrev pub rebind_is_past : RebindAt → Bool
-rebind_is_past (rebinding.Replacing node found relink) = true
 rebind_is_past (rebinding.Filling new) = false
 rebind_is_past (rebinding.Opening node) = false
 rebind_is_past (rebinding.Seeking node seek) = false
-rebind_is_past (rebinding.Owner node found) = false
-rebind_is_past (rebinding.ChainLink node found) = false
-rebind_is_past (rebinding.Link node found link) = false
-rebind_is_past (rebinding.Unlocking node table unlock) = false
+rebind_is_past (rebinding.Searching node found search) = false
+rebind_is_past (rebinding.LinkBehind node found old before) = true
+rebind_is_past (rebinding.OwnListLink node found old before link) = true
+rebind_is_past (rebinding.Swapping node found old before) = true
+rebind_is_past (rebinding.ChainLink node found) = true
+rebind_is_past (rebinding.Link node found link) = true
+rebind_is_past (rebinding.Replacing node found relink) = true
+rebind_is_past (rebinding.Unlocking table unlock end) = end_is_past end
 rebind_is_past (rebinding.Closing end) = end_is_past end
 rebind_is_past (rebinding.Giving give) = false
 
@@ -125,8 +128,7 @@ reply_is_past reply = false
 abbrev pub release_is_past : ReleaseAt → Bool
 release_is_past releasing.Opening = false
 release_is_past (releasing.Seeking seek) = false
-release_is_past (releasing.Owner found node before) = false
-release_is_past (releasing.ListLink found node) = false
+release_is_past (releasing.Searching found search) = false
 release_is_past (releasing.LinkBehind found node before) = true
 release_is_past (releasing.CuttingOut found node before link) = true
 release_is_past (releasing.ChainLink found second) = true
@@ -272,8 +274,7 @@ module _ (port owner : ℕ) where
       → ReleasePast (release_at.after_at mix env port owner state old)
   release-past mix env releasing.Opening old past = absurd (cc)
   release-past mix env (releasing.Seeking seek) old past = absurd (cc)
-  release-past mix env (releasing.Owner found node before) old past = absurd (cc)
-  release-past mix env (releasing.ListLink found node) old past = absurd (cc)
+  release-past mix env (releasing.Searching found search) old past = absurd (cc)
   release-past mix env (releasing.LinkBehind found node before) old past = taken-past env.geometry found node old before
   release-past mix env (releasing.ChainLink found second) old past = linked-past env.geometry found old second
   release-past mix env (releasing.Promoting found relink) old past =
@@ -288,6 +289,11 @@ module _ (port owner new : ℕ) where
   abbrev RebindPast : RebindAt × Next (Reply × Option ℕ) → Type 0
   RebindPast r = StaysPast rebind_is_past end_reply (Rebind port owner new) r
 
+  swapped-past : (node : ℕ) (found : FoundPort) (old : ℕ) (before : Option ℕ)
+      → rebind_is_past (rebind_at.swap_or_chain node found old before) ≡ true
+  swapped-past node found old None = refl
+  swapped-past node found old (Some before) = refl
+
   rebound-past : (node : ℕ) (found : FoundPort) (relink : RelinkModel) (next : Next (Unit {0}))
       → rebind_is_past (rebind_at.replaced node found relink next) ≡ true
   rebound-past node found relink Go = refl
@@ -299,10 +305,17 @@ module _ (port owner new : ℕ) where
 
   pub rebind-past : (mix : ℕ → ℕ → ℕ → ℕ) (env : Env) (state : RebindAt) (old : ℕ) → rebind_is_past state ≡ true
       → RebindPast (rebind_at.after_at mix env port owner state old)
+  rebind-past mix env (rebinding.Filling new) old past = absurd (cc)
+  rebind-past mix env (rebinding.Opening node) old past = absurd (cc)
+  rebind-past mix env (rebinding.Seeking node seek) old past = absurd (cc)
+  rebind-past mix env (rebinding.Searching node found search) old past = absurd (cc)
+  rebind-past mix env (rebinding.OwnListLink node found removed before link) old past = swapped-past node found removed before
   rebind-past mix env (rebinding.Replacing node found relink) old past =
       rebound-past node found (relink_after relink).0 (relink_after relink).1
+  rebind-past mix env (rebinding.Unlocking table unlock end) old past = past
   rebind-past mix env (rebinding.Closing end) old past = left-past env.geometry end past
-  rebind-past mix env _ old past = absurd (cc)
+  rebind-past mix env (rebinding.Giving give) old past = absurd (cc)
+  rebind-past mix env _ old past = refl
 
 -- ---- a resizing
 

@@ -115,17 +115,14 @@ bind-refusable (binding.UnlockingFull growing unlock) may = has_node refl refl g
 bind-refusable _ may = has_no_lock refl refl refl
 
 pub rebind-refusable : (state : RebindAt) → rebind_is_past state ≡ false → LocksWithNode (held_of_rebind state)
-rebind-refusable (rebinding.Replacing node found relink) may = absurd (cc)
-rebind-refusable (rebinding.Closing (ends.Rebound removed)) may = absurd (cc)
 rebind-refusable (rebinding.Filling new) may = has_no_lock refl refl refl
 rebind-refusable (rebinding.Opening node) may = has_no_lock refl refl refl
 rebind-refusable (rebinding.Seeking node seek) may = has_node refl refl node refl
-rebind-refusable (rebinding.Owner node found) may = has_node refl refl node refl
-rebind-refusable (rebinding.ChainLink node found) may = has_node refl refl node refl
-rebind-refusable (rebinding.Link node found link) may = has_node refl refl node refl
-rebind-refusable (rebinding.Unlocking node table unlock) may = has_node refl refl node refl
+rebind-refusable (rebinding.Searching node found search) may = has_node refl refl node refl
+rebind-refusable (rebinding.Unlocking table unlock (ends.Absent node)) may = has_node refl refl node refl
 rebind-refusable (rebinding.Closing (ends.Absent node)) may = has_no_lock refl refl refl
 rebind-refusable (rebinding.Giving give) may = has_no_lock refl refl refl
+rebind-refusable _ may = absurd (cc)
 
 -- a resizing that may still be refused, or has nothing to do, looks for the last table, makes one, or ends for want of one; or it finds that
 -- none was due, and looks for a future of the current one

@@ -20,7 +20,7 @@ use Rattle.rht_words.specs.Operations.{old_of, applied}
 use Rattle.rht_words.specs.Places.{Slot, FutureWord}
 use Rattle.rht_words.proofs.EachElement.{AllByRecursion-push}
 use Rattle.rht_model.specs.declared.history.Call.{Call}
-use Rattle.rht_model.specs.declared.history.Call.TheVariants.{Rebind, Work, Tidy}
+use Rattle.rht_model.specs.declared.history.Call.TheVariants.{Work, Tidy}
 use Rattle.rht_model.specs.declared.history.Reply.{Reply}
 use Rattle.rht_model.specs.declared.history.Reply.TheVariants as replies
 use Rattle.rht_model.specs.Answers.{Answer, is_change}
@@ -54,7 +54,7 @@ use Rattle.rht_ghost.proofs.Pieces.WorkLoads.{has_future}
 use Rattle.rht_ghost.proofs.Theory.Steps.{Holding, mem, ghost_after, Does, ReturnsNode, SaysChange}
 use Rattle.rht_core.proofs.Meaning.BoundPorts.{stands_for_bound}
 use Rattle.rht_core.proofs.Events.Worlds.{run_of-next, step_words}
-use Rattle.rht_core.proofs.Events.JobsOfCallers.{each_goes, first_rebind-so, first_tidy-so, same_call, first-of}
+use Rattle.rht_core.proofs.Events.JobsOfCallers.{each_goes, first_tidy-so, same_call, first-of}
 use Rattle.rht_core.proofs.Tracing.TracedJobs.{Performs, LeadsOn, IsEndedSo}
 use Rattle.rht_core.proofs.Tracing.JobsBeside.{kept_beside}
 use Rattle.rht_core.proofs.Tracing.BehindCalls.{section_left}
@@ -520,13 +520,10 @@ module _ (M : Type 0) (mix : ℕ → ℕ → ℕ → ℕ) (env : Env) (events : 
       by_case false may = leads_on job steps did may kept performs own here giving came
 
   first-stored : (call : Call) (batch : Option BatchModel) → IfSome (first_job env batch call) (λ job. JobStored env job [])
-  first-stored (Rebind port owner new) batch = first_rebind-so (λ job. JobStored env job []) env port owner new tt
   first-stored Tidy batch = first_tidy-so (λ job. JobStored env job []) batch (λ own. tt)
   first-stored _ batch = tt
 
   first-undoes : (call : Call) (batch : Option BatchModel) → IfSome (first_job env batch call) (λ job. UndoesInStage (stage_of job) job [])
-  first-undoes (Rebind port owner new) batch =
-      first_rebind-so (λ job. UndoesInStage (stage_of job) job []) env port owner new (nothing_undone (Rebind port owner new))
   first-undoes Tidy batch = first_tidy-so (λ job. UndoesInStage (stage_of job) job []) batch (λ own. nothing_undone Tidy)
   first-undoes Work batch = refl
   first-undoes call batch = nothing_undone call
@@ -560,7 +557,7 @@ module _ (M : Type 0) (mix : ℕ → ℕ → ℕ → ℕ) (env : Env) (events : 
     still-there steps leaves_all.1 recorded.1,
   )
 
-  each : IsAdmitted env.config.kind events → (calls : List Past) → AllByRecursion (IsEndedSo M mix env Going Undone) calls
+  each : IsAdmitted events → (calls : List Past) → AllByRecursion (IsEndedSo M mix env Going Undone) calls
       → AllByRecursion (IsPastCall M mix env events c) calls
       → AllByRecursion (λ past. changes_nothing past.done.call past.done.reply ≡ true → IsUndone M mix env events c past) calls
   each admitted [] ended were = tt

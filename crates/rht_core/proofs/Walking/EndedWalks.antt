@@ -26,7 +26,7 @@ use Rattle.rht_core.specs.RunHistories.{bindings_behind}
 use Rattle.rht_core.specs.Runs.{local_of, world_step}
 use Rattle.rht_core.specs.Traces.{Did, Past, Trace, trace_did, behind_call}
 use Rattle.rht_ghost.proofs.Theory.Steps.{mem}
-use Rattle.rht_core.proofs.Events.JobsOfCallers.{first_rebind-so, first_tidy-so, same_call}
+use Rattle.rht_core.proofs.Events.JobsOfCallers.{first_tidy-so, same_call}
 use Rattle.rht_core.proofs.Histories.Behind.{behind-more}
 use Rattle.rht_core.proofs.Machines.JobSteps.{JobIn}
 use Rattle.rht_core.proofs.Tracing.TracesAtEvents.{behind_steps-push}
@@ -328,10 +328,6 @@ module _ (L : Type 0) (mix : ℕ → ℕ → ℕ → ℕ) (env : Env) (events : 
     known = refl;
     keeps = record { none = refl; nothing = refl };
   }
-  first_walks c low (calls.Rebind port owner new) batch =
-      first_rebind-so (λ job. JobWalks L mix env all_events (world_step mix (R L mix env events).world event).core placed_then counts
-      (turn.then c) c
-      here [] (Some job)) env port owner new tt
   first_walks c low calls.Tidy batch =
       first_tidy-so (λ job. JobWalks L mix env all_events (world_step mix (R L mix env events).world event).core placed_then counts
       (turn.then c) c

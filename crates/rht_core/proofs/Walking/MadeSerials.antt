@@ -63,8 +63,8 @@ module _ (L : Type 0) (mix : ℕ → ℕ → ℕ → ℕ) (env : Env) where
 
   -- ---- one event more
 
-  module _ (events : List Event) (event : Event) (admitted : IsAdmitted env.config.kind events)
-      (may : IsAdmittedEvent env.config.kind event)
+  module _ (events : List Event) (event : Event) (admitted : IsAdmitted events)
+      (may : IsAdmittedEvent event)
       (looking : AreLooking L mix env events (Rs events)) (are : AreMade events (Rs events).world.core looking.placed.ghost) where
     abbrev w : World L
     w = (Rs events).world

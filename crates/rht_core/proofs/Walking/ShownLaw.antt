@@ -15,7 +15,7 @@ use Rattle.rht_core.proofs.Walking.WalkingRuns.{has_walks}
 use Rattle.rht_core.proofs.Walking.WalksAtEvents.{PastWalks, AreWalking}
 
 module _ (L : Type 0) (mix : ℕ → ℕ → ℕ → ℕ) (env : Env) (events : List Event) (c : ℕ) (first : Past) (pasts : List Past)
-    (admitted : IsAdmitted env.config.kind events) (few : pasts ≢ [] → AreFewMade L mix env events) (full : AreWalks None (first ∷ pasts))
+    (admitted : IsAdmitted events) (few : pasts ≢ [] → AreFewMade L mix env events) (full : AreWalks None (first ∷ pasts))
     (among : AreAmong (first ∷ pasts) ((traced_of {M = L} mix env events).traces c).past) where
   abbrev walking : AreWalking L mix env events (traced_of mix env events)
   walking = has_walks L mix env events admitted

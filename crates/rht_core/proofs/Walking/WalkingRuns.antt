@@ -4,7 +4,6 @@ use Rattle.std.proofs.Common.{◌≡◌, ℕ, ◌<◌, List, [], ◌∷◌, ◌+
 use Rattle.std.proofs.lemmas.Bool.{cases_eq}
 use Rattle.rht_words.specs.declared.op.Op.{Op}
 use Rattle.rht_words.specs.declared.env.Env.{Env}
-use Rattle.rht_words.specs.declared.config.Kind.{Kind}
 use Rattle.rht_words.specs.Operations.{old_of}
 use Rattle.rht_words.proofs.EachElement.{AllByRecursion-cut}
 use Rattle.rht_model.specs.declared.history.Call.{Call}
@@ -34,9 +33,6 @@ use Rattle.rht_core.proofs.Walking.WalksAtEvents.{JobWalks, AreWalking, count', 
 use Rattle.rht_core.proofs.Walking.EndedWalks.{ports_then, pasts_later, WalksThen, own_walks, walks_stay, first_walks}
 
 module _ (L : Type 0) (mix : ℕ → ℕ → ℕ → ℕ) (env : Env) where
-  abbrev kind : Kind
-  kind = env.config.kind
-
   abbrev Rs : List Event → Traced L
   Rs events = traced_of mix env events
 
@@ -114,7 +110,7 @@ module _ (L : Type 0) (mix : ℕ → ℕ → ℕ → ℕ) (env : Env) where
             (trace_begin_other L mix r c call d other)
       ]
 
-  step-walks : (events : List Event) (c : ℕ) (plan : Option Op) → IsAdmitted kind events
+  step-walks : (events : List Event) (c : ℕ) (plan : Option Op) → IsAdmitted events
       → (walking : AreWalking L mix env events (Rs events))
       → (turn : Turns L mix env events (Step c) walking.looking)
       → planned_in (Rs events).world.core c ≡ plan → EachWalks events (Step c) walking turn
@@ -174,7 +170,7 @@ module _ (L : Type 0) (mix : ℕ → ℕ → ℕ → ℕ) (env : Env) where
 
   -- ---- runs
 
-  event-walks : (events : List Event) (event : Event) → IsAdmitted kind events → IsAdmittedEvent kind event
+  event-walks : (events : List Event) (event : Event) → IsAdmitted events → IsAdmittedEvent event
       → AreWalking L mix env events (Rs events) → AreWalking L mix env (events ++ event ∷ []) (traced_step mix (Rs events) event)
   unfolding event-looks next
   event-walks events event admitted may walking =
@@ -217,11 +213,11 @@ module _ (L : Type 0) (mix : ℕ → ℕ → ℕ → ℕ) (env : Env) where
         };
       }
 
-  pub has_walks : (events : List Event) → IsAdmitted kind events → AreWalking L mix env events (Rs events)
+  pub has_walks : (events : List Event) → IsAdmitted events → AreWalking L mix env events (Rs events)
   has_walks =
-      induct_by_last (λ events. IsAdmitted kind events → AreWalking L mix env events (Rs events))
+      induct_by_last (λ events. IsAdmitted events → AreWalking L mix env events (Rs events))
       (λ none. opening-walks)
       (λ events event each all.
-      let parts = AllByRecursion-cut (IsAdmittedEvent kind) events (event ∷ []) all in
+      let parts = AllByRecursion-cut IsAdmittedEvent events (event ∷ []) all in
       subst (AreWalking L mix env (events ++ event ∷ [])) (sym (traced_of-push L mix env events event))
       (event-walks events event parts.0 parts.1.0 (each parts.0)))

@@ -1,21 +1,18 @@
 //! Calls and events as the rows of the tests have them. A port is its key word, which is its number where it
 //! is of net 0.
 
-ghost use Rattle.std.specs.Prelude.{◌≡◌};
-ghost use Rattle.rht_words.specs.declared.config.Kind.{Kind};
-ghost use Rattle.rht_core.specs.Runs.{IsBuiltFor, IsBuiltEvent};
-
 use rht_core::Event;
 use rht_model::{Call, Cursor};
 use rht_words::port_of;
 
-/// A call that each table knows.
+/// A call.
 #[derive(Clone, Copy, Debug, PartialEq)]
 pub enum Asked {
     Bind { port: u64, owner: u32, once: bool },
     Find { port: u64 },
     All { port: u64 },
     Release { port: u64, owner: u32 },
+    Rebind { port: u64, owner: u32, new: u32 },
     Walk { from: Option<Cursor>, limit: u32 },
     Work,
     Tidy,
@@ -24,9 +21,7 @@ pub enum Asked {
 
 impl Asked {
     /// The call.
-    pub fn call(self) -> Call
-        ensures { (kind : Kind) → IsBuiltFor kind result }
-    {
+    pub fn call(self) -> Call {
         match self {
             Asked::Bind { port, owner, once } => Call::Bind {
                 port: port_of(port),
@@ -42,6 +37,11 @@ impl Asked {
             Asked::Release { port, owner } => Call::Release {
                 port: port_of(port),
                 owner,
+            },
+            Asked::Rebind { port, owner, new } => Call::Rebind {
+                port: port_of(port),
+                owner,
+                new,
             },
             Asked::Walk { from, limit } => Call::Walk { from, limit },
             Asked::Work => Call::Work,
@@ -61,9 +61,7 @@ pub enum Told {
 
 impl Told {
     /// The event.
-    pub fn event(self) -> Event
-        ensures { (kind : Kind) → IsBuiltEvent kind result }
-    {
+    pub fn event(self) -> Event {
         match self {
             Told::Enroll => Event::Enroll,
             Told::Begin { caller, asked } => Event::Begin {

@@ -3,7 +3,7 @@
 use super::asked::Asked;
 use super::{
     BOUND, FIND_5, RELEASED, assert_run, assert_same, begin, begins, bind, ends, enrolls, filled,
-    linked, located, opened, release, replies, reply_to, small, steps,
+    linked, located, opened, rebind, release, replies, reply_to, small, steps,
 };
 use rht_core::{Event, State};
 use rht_model::Reply;
@@ -92,6 +92,36 @@ fn releases_from_lists(rt: HostRuntime) -> Result<(), Fail> {
             replies(release(5, 3), RELEASED),
             replies(FIND_5, Reply::Missing),
             replies(Asked::Count, Reply::Counted { count: 1 }),
+        ],
+    )
+}
+
+#[test]
+fn rebinds_in_lists(rt: HostRuntime) -> Result<(), Fail> {
+    let config = Config {
+        kind: Kind::Listed,
+        ..small()
+    };
+    assert_run::<Low>(
+        &rt,
+        rt.alloc(),
+        config,
+        &[
+            enrolls(0),
+            replies(bind(69, 7), BOUND),
+            replies(bind(5, 9), BOUND),
+            replies(bind(5, 3), BOUND),
+            replies(bind(5, 9), BOUND),
+            // The first of the list, the last and the second. One that isn't there gives its node back.
+            replies(rebind(5, 9, 4), Reply::Rebound),
+            replies(rebind(5, 9, 2), Reply::Rebound),
+            replies(rebind(5, 3, 8), Reply::Rebound),
+            replies(rebind(5, 3, 1), Reply::Absent),
+            replies(FIND_5, Reply::Found { owner: 4 }),
+            // An owner takes its own place, and with that each of the eight nodes is bound or out.
+            replies(rebind(5, 8, 8), Reply::Rebound),
+            replies(rebind(69, 7, 6), Reply::NoNode),
+            replies(Asked::Count, Reply::Counted { count: 2 }),
         ],
     )
 }

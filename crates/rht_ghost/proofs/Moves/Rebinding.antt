@@ -1,6 +1,6 @@
 -- The store by which a caller that has locked a port's bucket changes what the port is bound to. What it does to other buckets,
 -- ports and callers is shown here once; what it does to the port and to its bucket is asked of each such store.
-use Rattle.std.proofs.Common.{◌≡◌, ◌≢◌, ◌⊎◌, ◌↔◌, ℕ, ◌^◌, ◌+◌, ◌*◌, ◌/◌, ◌%◌, ◌<◌, ◌≤◌, List, [], ◌∷◌, Option, Some, None, false, refl, sym, ◌∙◌, ap, subst, inl, inr, arith, true}
+use Rattle.std.proofs.Common.{◌≡◌, ◌≢◌, ◌⊎◌, ◌↔◌, ℕ, ◌+◌, ◌*◌, ◌/◌, ◌%◌, ◌<◌, ◌≤◌, List, [], ◌∷◌, Option, Some, None, false, refl, sym, ◌∙◌, ap, subst, inl, inr, arith, true}
 use Rattle.std.specs.Int.{bit_at}
 use Rattle.std.proofs.lemmas.Bool.{cases_eq, eq-eqb}
 use Rattle.rht_words.specs.declared.env.Env.{Env}
@@ -30,6 +30,14 @@ module _ (env : Env) (mix : ℕ → ℕ → ℕ → ℕ) (d : ℕ) (change : Cha
 
   abbrev here : ℕ
   here = change.place
+
+  -- what is so of each owner that changes and of each that stays is so of each
+  pub owners_all : (P : ℕ → Owner → Type 0) → P change.one change.one_owner → P change.other change.other_owner
+      → ((n : ℕ) → n ≢ change.one → n ≢ change.other → P n (G.node n)) → (n : ℕ) → P n (G'.node n)
+  owners_all P one other rest =
+      put-all P (put G.node change.one change.one_owner) change.other change.other_owner other
+      (λ n ne. put-all (λ m o. m ≢ change.other → P m o) G.node change.one change.one_owner
+      (λ apart. one) (λ m apart apart_other. rest m apart apart_other) n ne)
 
   -- the word that is stored is no word of a table, of the maps or the count, no key or owner, no link of another bucket's nodes or
   -- of another port's list, and no word of a node that another caller has
@@ -101,14 +109,6 @@ module _ (env : Env) (mix : ℕ → ℕ → ℕ → ℕ) (d : ℕ) (change : Cha
     key_stays n l = store.write.others (Node n KeyWord) l (store.no_key n)
 
     -- ---- who owns nodes
-
-    -- what is so of each owner that changes and of each that stays is so of each
-    owners_all : (P : ℕ → Owner → Type 0) → P change.one change.one_owner → P change.other change.other_owner
-        → ((n : ℕ) → n ≢ change.one → n ≢ change.other → P n (G.node n)) → (n : ℕ) → P n (G'.node n)
-    owners_all P one other rest =
-        put-all P (put G.node change.one change.one_owner) change.other change.other_owner other
-        (λ n ne. put-all (λ m o. m ≢ change.other → P m o) G.node change.one change.one_owner
-        (λ apart. one) (λ m apart apart_other. rest m apart apart_other) n ne)
 
     -- a node of another port, or of another caller, keeps its owner
     record IsKept (n : ℕ) : Type 0 where

@@ -7,7 +7,7 @@ use Rattle.rht_words.specs.Links.{link_of}
 use Rattle.rht_words.specs.Members.{In}
 use Rattle.rht_words.proofs.Members.{in-middle, not_in_from}
 use Rattle.rht_words.proofs.Memory.{Memory, IsWrite}
-use Rattle.rht_ghost.proofs.Theory.Ghosts.{put, put-same, put-all, NodeHeld, First, Behind, Bucket, Ghost, is_taken_by, held_not_used, with_owner}
+use Rattle.rht_ghost.proofs.Theory.Ghosts.{put, put-same, put-all, NodeHeld, First, Behind, Ghost, is_taken_by, held_not_used, with_owner}
 use Rattle.rht_ghost.proofs.Theory.Wholes.{list_of, key_of, place_at, word_index, place_at-index, home, MovesNone, outs, Whole, IsThere}
 use Rattle.rht_ghost.proofs.Theory.Passed.{Passed, stays_in}
 use Rattle.rht_ghost.proofs.Theory.Knowns.{Replaces, StandsAt}
@@ -18,6 +18,7 @@ use Rattle.rht_ghost.proofs.Theory.Readiness.{Change, changed, IsRebinding}
 use Rattle.rht_ghost.proofs.Theory.Steps.{reowned-outs}
 use Rattle.rht_ghost.proofs.Moves.Relinking.{relink_address, relink_value, relinked}
 use Rattle.rht_ghost.proofs.Moves.Removing.{IsFoundIn, CanReplace, replace, replacing, replacing_known}
+use Rattle.rht_ghost.proofs.Pieces.Rebounds.{lock_stays}
 
 -- the lock that is left behind the store, by the node before
 abbrev pub lock_left : ℕ → Option ℕ → Option ℕ
@@ -149,17 +150,9 @@ module _ (env : Env) (mix : ℕ → ℕ → ℕ → ℕ) (c port place word firs
   -- with one it is still locked
   pub front_locks : (p : ℕ) → before ≡ Some p → HoldsLock env mix c fronted place word
   front_locks p e =
-      let lock = is.found.standing.lock in
-      let there = put-same G.bucket j change.bucket in
       let nodes : List ℕ = stands.front ++ ((n ∷ []) ++ stands.rear) in
-      let after : Option ℕ → Bucket = relinked (place_at env mix j) (link_of n) (G.bucket j) nodes in
-      record {
-        bucket = lock.bucket;
-        holder = ap (λ b. b.holder) there ∙ ap (λ b. (after b).holder) e ∙ lock.holder;
-        plain = ap (λ b. b.plain) there ∙ ap (λ b. (after b).plain) e ∙ lock.plain;
-        unarmed = ap (λ b. b.armed) there ∙ ap (λ b. (after b).armed) e ∙ lock.unarmed;
-        still = ap (λ b. b.out) there ∙ ap (λ b. (after b).out) e ∙ lock.still;
-      }
+      lock_stays env mix c G change place word nodes refl
+      (ap (relinked (place_at env mix j) (link_of n) (G.bucket j) nodes) e) is.found.standing.lock
 
   -- no node was taken out of a list
   pub front_outs : outs env mix fronted c ≡ outs env mix G c

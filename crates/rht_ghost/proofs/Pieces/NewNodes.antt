@@ -24,9 +24,9 @@ use Rattle.rht_arena.proofs.TakenWereFree.{claims}
 use Rattle.rht_ghost.proofs.Theory.Ghosts.{put-same, put-all, Owner, Free, NodeHeld, Ghost, IsUsed, is_used, is_taken_by, held_not_used, unused-unlisted, with_owner}
 use Rattle.rht_ghost.proofs.Theory.Wholes.{Whole}
 use Rattle.rht_ghost.proofs.Theory.Knowns.{KnownNode, KnownTable, KnownBucket, knows_plain}
-use Rattle.rht_ghost.proofs.Theory.Knowledge.{plainly, IsPlain, NodeMeans, TableMeans, Knowing}
+use Rattle.rht_ghost.proofs.Theory.Knowledge.{plainly, IsPlain, SpeaksOf, plain-speaks, NodeMeans, TableMeans, Knowing}
 use Rattle.rht_ghost.proofs.Theory.Reliance.{members_used, TablesStay}
-use Rattle.rht_ghost.proofs.Theory.KnowledgeStays.{BucketMeans-own, TableMeans-stay, BucketMeans-stay}
+use Rattle.rht_ghost.proofs.Theory.KnowledgeStays.{BucketMeans-own, TableMeans-stay, BucketMeans-stay, BucketMeans-such}
 use Rattle.rht_ghost.proofs.Theory.Frames.{chains_stay, tables_stay}
 use Rattle.rht_ghost.proofs.Theory.WholeFrames.{same_chains, chains_passes}
 use Rattle.rht_ghost.proofs.Theory.Steps.{Quiet, TakesNode, GivesNode, by_test, Holding, mem, SilentStep, silent, loads}
@@ -174,13 +174,16 @@ module _ (env : Env) (mix : ℕ → ℕ → ℕ → ℕ) (c : ℕ) (h : Holding)
           list = write.same;
         }
 
-    -- a word of a node that the caller has is stored
-    pub fill_step : IsPlain env mix bucket → (known : KnownNode) (w : NodeWord) (value : ℕ)
-        → knowing (Some known.node) (Some known) M G
-        → SilentStep env mix c words G (Store (place_of env.geometry (Node known.node w)) value)
+    abbrev pub FillStep : KnownNode → NodeWord → ℕ → Type 0
+    FillStep known w value =
+        SilentStep env mix c words G (Store (place_of env.geometry (Node known.node w)) value)
         (holding (Some known.node)) (holding (Some known.node))
         (knowing (Some known.node) (Some (with_word known w value)))
-    fill_step plain known w value knows =
+
+    -- a word of a node that the caller has is stored, of which what it knows of a bucket doesn't speak
+    pub store_step : (known : KnownNode) (w : NodeWord) (value : ℕ) → SpeaksOf env mix (λ u. u ≢ w) bucket
+        → knowing (Some known.node) (Some known) M G → FillStep known w value
+    store_step known w value speaks knows =
         let op = Store (place_of env.geometry (Node known.node w)) value in
         let M' = mem env mix (applied words op) in
         let has = knows.means.node.has in
@@ -194,13 +197,21 @@ module _ (env : Env) (mix : ℕ → ℕ → ℕ → ℕ) (c : ℕ) (h : Holding)
           holds = refl;
           leaves = inr (inl (record { node = known.node; word = w; has = refl; place = refl }));
         })
-        (plainly env mix knows.only (word-known known w value M' knows.means.node write) knows.means.table (BucketMeans-stay env mix c M M' G G (members_used env mix M G whole)
-        (λ j holds. refl) (λ j n h i. refl)
+        (plainly env mix knows.only (word-known known w value M' knows.means.node write) knows.means.table
+        (BucketMeans-such env mix c M M' G G (members_used env mix M G whole) (λ j holds. refl)
+        (λ j n h i. refl)
         (chains_stay env mix c M M' G (Node known.node w) value whole write
         (λ n used e. not_mine n used (cc)))
         (λ n l used. write.others (Node n KeyWord) l (λ e. not_mine n used (cc)))
         (λ n l used. write.others (Node n OwnerWord) l (λ e. not_mine n used (cc))) (λ n. refl)
-        stays-same (λ port τ j is. is.unbound) bucket plain knows.means.bucket))
+        stays-same (λ port τ j is. is.unbound) (λ u. u ≢ w)
+        (λ u differs n own. (own, write.others (Node n u) own.among (λ e. differs (cc)))) bucket speaks knows.means.bucket))
+
+    -- or where what it knows of a bucket doesn't speak of it at all
+    pub fill_step : IsPlain env mix bucket → (known : KnownNode) (w : NodeWord) (value : ℕ)
+        → knowing (Some known.node) (Some known) M G → FillStep known w value
+    fill_step plain known w value =
+        store_step known w value (plain-speaks env mix (λ u. u ≢ w) bucket plain)
 
     -- ---- a node is taken
 
@@ -248,7 +259,7 @@ module _ (env : Env) (mix : ℕ → ℕ → ℕ → ℕ) (c : ℕ) (h : Holding)
         (put-all (λ m o. is_taken_by c o ≡ is_taken_by c (G.node m)) G.node n (NodeHeld c)
         (sym (ap (is_taken_by c) taken.1)) (λ m ne. refl))
         (stays-reowned n (NodeHeld c) (ap is_used taken.1) refl) (λ port τ j is. is.unbound) bucket
-        (λ x has. let none = knows.only.nodes x has.mine in absurd (cc)) knows.means.bucket))
+        (λ w each x has. let none = knows.only.nodes x has.mine in absurd (cc)) knows.means.bucket))
 
     -- one that finds the bit clear leaves the word
     claim_lost : (index bit : ℕ) → IsBitIn env.geometry.nodes index bit
@@ -279,7 +290,7 @@ module _ (env : Env) (mix : ℕ → ℕ → ℕ → ℕ) (c : ℕ) (h : Holding)
         (λ m l used. write.others (Node m KeyWord) l (λ e. cc))
         (λ m l used. write.others (Node m OwnerWord) l (λ e. cc)) (λ m. refl)
         stays-same (λ port τ j is. is.unbound) bucket
-        (λ x has. let none = knows.only.nodes x has.mine in absurd (cc)) knows.means.bucket))
+        (λ w each x has. let none = knows.only.nodes x has.mine in absurd (cc)) knows.means.bucket))
 
     -- what an operation of the taking leads to
     abbrev pub TakeMoved : Op → TakeNodeModel × Next (Option ℕ) → Type 0

@@ -3,7 +3,7 @@ use Rattle.std.proofs.Common.{◌≡◌, ℕ, ◌+◌, ◌%◌, ◌^◌, ◌<◌
 use Rattle.rht_words.specs.declared.env.Env.{Env}
 use Rattle.rht_words.specs.declared.op.Op.TheVariants.{Add}
 use Rattle.rht_words.specs.Operations.{applied}
-use Rattle.rht_words.specs.Places.{PortCount, Node, ChainLink, KeyWord, OwnerWord, place_of, words_in}
+use Rattle.rht_words.specs.Places.{PortCount, Node, KeyWord, OwnerWord, place_of, words_in}
 use Rattle.rht_words.proofs.Memory.{Memory, IsWrite, is_write}
 use Rattle.rht_ghost.proofs.Theory.Ghosts.{put-same, Ghost, with_raised}
 use Rattle.rht_ghost.proofs.Theory.Wholes.{Whole}
@@ -58,8 +58,5 @@ module _ (env : Env) (mix : ℕ → ℕ → ℕ → ℕ) (c : ℕ) (h : Holding)
       (λ n l used. write.others (Node n KeyWord) l (λ e. cc))
       (λ n l used. write.others (Node n OwnerWord) l (λ e. cc)) (λ n. refl) stay
       (λ port τ j is. is.unbound) bucket
-      (λ n has. (
-        record { mine = has.mine; among = has.among },
-        write.others (Node n ChainLink)
-            has.among (λ e. cc),
-      )) knows.means.bucket))
+      (λ w each n has. (record { mine = has.mine; among = has.among }, write.others (Node n w) has.among (λ e. cc)))
+      knows.means.bucket))

@@ -11,7 +11,7 @@ use Rattle.rht_words.proofs.Memory.{Memory}
 use Rattle.rht_words.proofs.PlacesApart.{parts_in_order}
 use Rattle.rht_ghost.proofs.Theory.Ghosts.{put, put-same, put-other, put-all, Owner, NodeHeld, Taken, Ghost, is_used, is_taken_by}
 use Rattle.rht_ghost.proofs.Theory.Wholes.{key_of, place_at, word_index, Whole}
-use Rattle.rht_ghost.proofs.Theory.Knowledge.{HasOnly, IsFound}
+use Rattle.rht_ghost.proofs.Theory.Knowledge.{HasOnly, HoldsLock, IsFound}
 use Rattle.rht_ghost.proofs.Theory.Reliance.{bound_used}
 use Rattle.rht_ghost.proofs.Theory.Passed.{NoKey-same}
 use Rattle.rht_ghost.proofs.Theory.Frames.{Made}
@@ -112,6 +112,22 @@ module _ (env : Env) (mix : ℕ → ℕ → ℕ → ℕ) (c : ℕ) (G : Ghost) w
       → HasOnly env mix c (changed G c change) None lock None change.raised None [] false true
   only_rebound change place lock raised is one other holder only =
       only_left change place None lock raised is one other (λ n none. absurd (cc)) holder only
+
+  -- a bucket of which only the nodes change is locked still
+  pub lock_stays : (change : Change) (place word : ℕ) (nodes : List ℕ) → change.place ≡ word_index env mix place
+      → change.bucket ≡ record (G.bucket (word_index env mix place)) { nodes = nodes }
+      → HoldsLock env mix c G place word → HoldsLock env mix c (changed G c change) place word
+  lock_stays change place word nodes there same lock =
+      let j = word_index env mix place in
+      let kept : put G.bucket change.place change.bucket j ≡ record (G.bucket j) { nodes = nodes } =
+      ap (λ i. put G.bucket i change.bucket j) there ∙ put-same G.bucket j change.bucket ∙ same in
+      record {
+        bucket = lock.bucket;
+        holder = ap (λ b. b.holder) kept ∙ lock.holder;
+        plain = ap (λ b. b.plain) kept ∙ lock.plain;
+        unarmed = ap (λ b. b.armed) kept ∙ lock.unarmed;
+        still = ap (λ b. b.out) kept ∙ lock.still;
+      }
 
   -- nodes to which a port was bound keep their owners
   pub owners_kept : (M M' : Memory) (G' : Ghost) → Whole env mix M G → Made env mix c M G M' G'

@@ -13,13 +13,13 @@ use Rattle.rht_chain.specs.Relink.{RelinkModel, relink_new, relink_plan, relink_
 use Rattle.rht_chain.specs.declared.relink.RelinkAt.{RelinkAt}
 use Rattle.rht_chain.specs.declared.relink.RelinkAt.TheVariants.{ChainLink as AtLink, Word}
 use Rattle.rht_chain.specs.Relink.{has_relinked}
-use Rattle.rht_ghost.proofs.Theory.Ghosts.{put, put-same, Bucket, Ghost}
+use Rattle.rht_ghost.proofs.Theory.Ghosts.{Bucket, Ghost}
 use Rattle.rht_ghost.proofs.Theory.Wholes.{place_at, word_index, place_at-index, index-within}
 use Rattle.rht_ghost.proofs.Theory.Knowledge.{HoldsLock}
 use Rattle.rht_ghost.proofs.Theory.Steps.{mem}
 use Rattle.rht_ghost.proofs.Theory.Readiness.{Change, changed}
 use Rattle.rht_ghost.proofs.Moves.Relinking.{relink_address, relink_value, relinked}
-use Rattle.rht_ghost.proofs.Pieces.Rebounds.{node_behind_maps, node_before_pages, bucket_behind_maps}
+use Rattle.rht_ghost.proofs.Pieces.Rebounds.{lock_stays, node_behind_maps, node_before_pages, bucket_behind_maps}
 
 -- ---- how a relinking stands
 
@@ -141,13 +141,5 @@ module _ (env : Env) (mix : ℕ → ℕ → ℕ → ℕ) (place word link : ℕ)
     -- with a node before, the bucket is locked still
     pub lock_kept : (node : ℕ) → before ≡ Some node → HoldsLock env mix c G' place word
     lock_kept node is =
-        let kept : G'.bucket j ≡ record (G.bucket j) { nodes = nodes } =
-        ap (λ i. put G.bucket i change.bucket j) there ∙ put-same G.bucket j change.bucket ∙ relinks
-        ∙ ap (relinked (place_at env mix j) link (G.bucket j) nodes) is in
-        record {
-          bucket = lock.bucket;
-          holder = ap (λ b. b.holder) kept ∙ lock.holder;
-          plain = ap (λ b. b.plain) kept ∙ lock.plain;
-          unarmed = ap (λ b. b.armed) kept ∙ lock.unarmed;
-          still = ap (λ b. b.out) kept ∙ lock.still;
-        }
+        lock_stays env mix c G change place word nodes there
+        (relinks ∙ ap (relinked (place_at env mix j) link (G.bucket j) nodes) is) lock

@@ -3,7 +3,7 @@
 use Rattle.std.proofs.Common.{◌≡◌, ◌≢◌, ◌⊎◌, refl, ℕ, ◌+◌, ◌*◌, ◌/◌, ◌%◌, ◌<◌, ◌≤◌, List, [], ◌∷◌, length, Option, Some, None, Bool, true, false, arith}
 use Rattle.std.specs.Prelude.{IfSome}
 use Rattle.rht_words.specs.declared.env.Env.{Env}
-use Rattle.rht_words.specs.Places.{Section, Slot, ShapeWord, SeedWord, FutureWord, SerialWord, LoadedSection, Node, ChainLink, KeyWord, OwnerWord, ListLink, IsBucketPlace}
+use Rattle.rht_words.specs.Places.{Section, Slot, ShapeWord, SeedWord, FutureWord, SerialWord, LoadedSection, Node, NodeWord, ChainLink, KeyWord, OwnerWord, ListLink, IsBucketPlace}
 use Rattle.rht_words.specs.Shapes.{unpacked, size_of}
 use Rattle.rht_words.specs.Ports.{owner_of}
 use Rattle.rht_words.specs.Links.{head_of}
@@ -14,9 +14,9 @@ use Rattle.rht_words.specs.declared.machine.Start.TheVariants as starts
 use Rattle.rht_nest.specs.Tables.{is_nested, table_pages, table_seed}
 use Rattle.rht_nest.specs.Place.{PlaceModel, nested_place, entered, is_deep}
 use Rattle.rht_ghost.proofs.Theory.Ghosts.{has_entries, Bucket, NodeHeld, Leaving, Middle, PageHeld, PageOf, SlotHeld, Live, Retiring, Retired, Back, slot_holder, Ghost, is_taken_by, IsSince, IsOver}
-use Rattle.rht_ghost.proofs.Theory.Wholes.{AreRetired, chain_of, key_of, place_at, word_index, hash_in, home, pages_of, MovesNone, moves_none, IsFurther, Whole, IsAt, AreThereFrom, there_behind}
+use Rattle.rht_ghost.proofs.Theory.Wholes.{AreRetired, chain_of, list_of, key_of, place_at, word_index, hash_in, home, pages_of, MovesNone, moves_none, IsFurther, Whole, IsAt, AreThereFrom, there_behind}
 use Rattle.rht_ghost.proofs.Theory.Passed.{NoKey, Passed}
-use Rattle.rht_ghost.proofs.Theory.Knowns.{knows_plain, Armed, KnownAim, NoAim, Onward, From, Beyond, KnownRehash, KnownPlace, Follows, Nears, Faces, InBucket, Bare, Aims, LeavesBehind, AtEntry, AtHome, AtNode, AtTail, Brings, Collected, CollectedTo, CutsOut, Differing, Differs, Empties, FirstLink, Found, HasBrought, HasKept, HasLoadedWord, HasMade, HasPages, HasTaken, InList, InSlot, IsAmong, IsCollected, IsCollectedTo, IsCutOut, IsLeading, IsLeadingTo, IsOtherOwner, IsOwnersNode, IsPromoting, Known, KnownBucket, KnownEntry, KnownList, KnownMaking, KnownNode, KnownSlot, KnownTable, KnownWork, Leads, LeadsTo, Listing, Locks, LocksTakenOut, MakesNothing, Matching, Member, Missed, NoWork, Nowhere, OnWay, Passes, Promotes, Replaces, Rooted, Shaped, Stands, StandsAt, StandsInList, Succeeds, TakenOut, TakesOut, Unlocked, Unlocks, Works, last_of, Asks, Compares, KnownGiving, Over, InRun, AtTop, AtLeaf, ClearsLeaf, ClearsTop, GivesBack, HasBack}
+use Rattle.rht_ghost.proofs.Theory.Knowns.{knows_plain, Armed, KnownAim, NoAim, Onward, From, Beyond, KnownRehash, KnownPlace, Follows, Nears, Faces, InBucket, Bare, Aims, LeavesBehind, AtEntry, AtHome, AtNode, AtTail, Brings, Collected, CollectedTo, Copied, CopiedTo, LinkBehind, Differing, Differs, Empties, FirstLink, Found, HasBrought, HasKept, HasLoadedWord, HasMade, HasPages, HasTaken, InList, InSlot, IsAmong, IsCollected, IsCollectedTo, IsLinkBehind, IsLeading, IsLeadingTo, IsOtherOwner, IsOwnersNode, IsPromoting, Known, KnownBucket, KnownEntry, KnownList, KnownMaking, KnownNode, KnownSlot, KnownTable, KnownWork, Leads, LeadsTo, Listing, Locks, LocksTakenOut, MakesNothing, Matching, Member, Missed, NoWork, Nowhere, OnWay, Passes, Promotes, Replaces, Rooted, Shaped, Stands, StandsAt, StandsInList, Succeeds, TakenOut, TakesOut, Unlocked, Unlocks, Works, last_of, list_link, Asks, Compares, KnownGiving, Over, InRun, AtTop, AtLeaf, ClearsLeaf, ClearsTop, GivesBack, HasBack}
 use Rattle.rht_ghost.proofs.Theory.Ways.{first_page, entries_in, IsNestedShape}
 
 -- the caller does the work, and each table before the current one that has a slot is retired, but for the one in this slot
@@ -218,24 +218,42 @@ module _ (env : Env) (mix : ℕ → ℕ → ℕ → ℕ) where
     pub has : HasNode c G node
     pub alike : chain_of M node ≡ chain_of M first
 
-  -- and the first one has this owner, and is the only one
-  pub record IsSucceeding (c : ℕ) (M : Memory) (G : Ghost) (first : ℕ) (behind : List ℕ) (node owner : ℕ) : Type 0 where
-    pub leads : IsLeading M first behind None owner
-    pub replaces : IsReplacing c M G first node
+  -- the caller's own node has the link that is behind a node with this owner in the list
+  pub record IsCopied (c : ℕ) (M : Memory) (G : Ghost) (nodes : List ℕ) (node : ℕ) (before : Option ℕ) (own owner : ℕ) :
+      Type 0 where
+    pub is : IsOwnersNode M nodes node before owner
+    pub has : HasNode c G own
+    pub list_is : list_of M own ≡ list_link is.stands.among.rear
+
+  -- and that is the first one, behind which is this link in the chain
+  pub record IsCopiedTo (c : ℕ) (M : Memory) (G : Ghost) (first : ℕ) (behind : List ℕ) (own link owner : ℕ) : Type 0 where
+    pub owner_is : owner_of (M (Node first OwnerWord)) ≡ owner
+    pub has : HasNode c G own
+    pub list_is : list_of M own ≡ list_link behind
+    pub link_is : chain_of M first ≡ link
+
+  -- or the own node leads on as the first one does
+  pub record IsSucceeding (c : ℕ) (M : Memory) (G : Ghost) (first : ℕ) (behind : List ℕ) (own owner : ℕ) : Type 0 where
+    pub owner_is : owner_of (M (Node first OwnerWord)) ≡ owner
+    pub list_is : list_of M own ≡ list_link behind
+    pub replaces : IsReplacing c M G first own
 
   abbrev pub ListMeans : ℕ → Memory → Ghost → ℕ → List ℕ → KnownList → Type 0
   ListMeans c M G first behind (AtNode node before owner) = StandsInList M (first ∷ behind) node before owner
   ListMeans c M G first behind (Differing node owner) = IsOtherOwner M (first ∷ behind) node owner
   ListMeans c M G first behind (Matching node before owner) = IsOwnersNode M (first ∷ behind) node before
       owner
-  ListMeans c M G first behind (CutsOut node before link owner) = IsCutOut M (first ∷ behind) node before
+  ListMeans c M G first behind (LinkBehind node before link owner) = IsLinkBehind M (first ∷ behind) node before
       link owner
+  ListMeans c M G first behind (Copied node before own owner) = IsCopied c M G (first ∷ behind) node before own
+      owner
   ListMeans c M G first behind (Leads second owner) = IsLeading M first behind second owner
   ListMeans c M G first behind (LeadsTo second link owner) = IsLeadingTo M first behind second link owner
   ListMeans c M G first behind (Promotes second owner) = IsPromoting M first behind second owner
   ListMeans c M G first behind (FirstLink link) = chain_of M first ≡ link
   ListMeans c M G first behind (Replaces node) = IsReplacing c M G first node
-  ListMeans c M G first behind (Succeeds node owner) = IsSucceeding c M G first behind node owner
+  ListMeans c M G first behind (CopiedTo own link owner) = IsCopiedTo c M G first behind own link owner
+  ListMeans c M G first behind (Succeeds own owner) = IsSucceeding c M G first behind own owner
   ListMeans c M G first behind (Collected node owners) = IsCollected M (first ∷ behind) node owners
   ListMeans c M G first behind (CollectedTo node owners) = IsCollectedTo M (first ∷ behind) node owners
 
@@ -272,35 +290,64 @@ module _ (env : Env) (mix : ℕ → ℕ → ℕ → ℕ) where
   BucketMeans c M G (TakenOut node) = HasTakenOut c G node
   BucketMeans c M G (LocksTakenOut place word node) = LocksAndTook c G place word node
 
-  -- what is known of a list doesn't speak of the caller's own node
-  abbrev pub IsPlainList : KnownList → Type 0
-  IsPlainList (AtNode node before owner) = Unit {0}
-  IsPlainList (Differing node owner) = Unit {0}
-  IsPlainList (Matching node before owner) = Unit {0}
-  IsPlainList (CutsOut node before link owner) = Unit {0}
-  IsPlainList (Leads second owner) = Unit {0}
-  IsPlainList (LeadsTo second link owner) = Unit {0}
-  IsPlainList (Promotes second owner) = Unit {0}
-  IsPlainList (FirstLink link) = Unit {0}
-  IsPlainList (Replaces node) = ⊥
-  IsPlainList (Succeeds node owner) = ⊥
-  IsPlainList (Collected node owners) = Unit {0}
-  IsPlainList (CollectedTo node owners) = Unit {0}
+  -- of the caller's own node, what is known of a list speaks of such words alone
+  abbrev pub SpeaksOfList : (NodeWord → Type 0) → KnownList → Type 0
+  SpeaksOfList Such (AtNode node before owner) = Unit {0}
+  SpeaksOfList Such (Differing node owner) = Unit {0}
+  SpeaksOfList Such (Matching node before owner) = Unit {0}
+  SpeaksOfList Such (LinkBehind node before link owner) = Unit {0}
+  SpeaksOfList Such (Copied node before own owner) = Such ListLink
+  SpeaksOfList Such (Leads second owner) = Unit {0}
+  SpeaksOfList Such (LeadsTo second link owner) = Unit {0}
+  SpeaksOfList Such (Promotes second owner) = Unit {0}
+  SpeaksOfList Such (FirstLink link) = Unit {0}
+  SpeaksOfList Such (Replaces node) = Such ChainLink
+  SpeaksOfList Such (CopiedTo own link owner) = Such ListLink
+  SpeaksOfList Such (Succeeds own owner) = Such ChainLink × Such ListLink
+  SpeaksOfList Such (Collected node owners) = Unit {0}
+  SpeaksOfList Such (CollectedTo node owners) = Unit {0}
 
+  abbrev pub SpeaksOf : (NodeWord → Type 0) → KnownBucket → Type 0
+  SpeaksOf Such Unlocked = Unit {0}
+  SpeaksOf Such (Unlocks place word) = Unit {0}
+  SpeaksOf Such (Armed place word port) = Unit {0}
+  SpeaksOf Such (Locks place word) = Unit {0}
+  SpeaksOf Such (Stands place word key node before count) = Unit {0}
+  SpeaksOf Such (Differs place word key node before count) = Unit {0}
+  SpeaksOf Such (Missed place word key) = Unit {0}
+  SpeaksOf Such (Found place word key node before) = Unit {0}
+  SpeaksOf Such (Member place word key node) = Unit {0}
+  SpeaksOf Such (Listing place word key node owner) = Unit {0}
+  SpeaksOf Such (InList place word key first before known) = SpeaksOfList Such known
+  SpeaksOf Such (TakenOut node) = Unit {0}
+  SpeaksOf Such (LocksTakenOut place word node) = Unit {0}
+
+  -- it speaks of none
   abbrev pub IsPlain : KnownBucket → Type 0
-  IsPlain Unlocked = Unit {0}
-  IsPlain (Unlocks place word) = Unit {0}
-  IsPlain (Armed place word port) = Unit {0}
-  IsPlain (Locks place word) = Unit {0}
-  IsPlain (Stands place word key node before count) = Unit {0}
-  IsPlain (Differs place word key node before count) = Unit {0}
-  IsPlain (Missed place word key) = Unit {0}
-  IsPlain (Found place word key node before) = Unit {0}
-  IsPlain (Member place word key node) = Unit {0}
-  IsPlain (Listing place word key node owner) = Unit {0}
-  IsPlain (InList place word key first before known) = IsPlainList known
-  IsPlain (TakenOut node) = Unit {0}
-  IsPlain (LocksTakenOut place word node) = Unit {0}
+  IsPlain known = SpeaksOf (λ word. ⊥) known
+
+  -- it speaks of such alone where all words are such, and where it speaks of none
+  speaks_of_list : (Such : NodeWord → Type 0) → ((word : NodeWord) → Such word) → (known : KnownList) → SpeaksOfList Such known
+  speaks_of_list Such all (Copied node before own owner) = all ListLink
+  speaks_of_list Such all (Replaces node) = all ChainLink
+  speaks_of_list Such all (CopiedTo own link owner) = all ListLink
+  speaks_of_list Such all (Succeeds own owner) = (all ChainLink, all ListLink)
+  speaks_of_list Such all _ = tt
+
+  pub speaks_of : (Such : NodeWord → Type 0) → ((word : NodeWord) → Such word) → (known : KnownBucket) → SpeaksOf Such known
+  speaks_of Such all (InList place word key first before known) = speaks_of_list Such all known
+  speaks_of Such all _ = tt
+
+  plain_list-speaks : (Such : NodeWord → Type 0) (known : KnownList) → SpeaksOfList (λ word. ⊥) known → SpeaksOfList Such known
+  plain_list-speaks Such (Copied node before own owner) plain = absurd plain
+  plain_list-speaks Such (Replaces node) plain = absurd plain
+  plain_list-speaks Such (CopiedTo own link owner) plain = absurd plain
+  plain_list-speaks Such (Succeeds own owner) plain = absurd plain.0
+  plain_list-speaks Such _ plain = tt
+
+  pub plain-speaks : (Such : NodeWord → Type 0) (known : KnownBucket) → IsPlain known → SpeaksOf Such known
+  plain-speaks Such (InList place word key first before known) plain = plain_list-speaks Such known plain
+  plain-speaks Such _ plain = tt
 
   -- ---- tables that callers make
 

@@ -3,7 +3,7 @@ use Rattle.std.proofs.Common.{◌≡◌, ℕ, ◌+◌, ◌<◌, ◌≤◌, List,
 use Rattle.std.specs.Prelude.{IfSome}
 use Rattle.rht_words.specs.declared.env.Env.{Env}
 use Rattle.rht_nest.specs.Tables.{table_seed}
-use Rattle.rht_words.specs.Places.{Slot, SlotWord, ShapeWord, SeedWord, FutureWord, SerialWord, IsSlotWord, ChainLink, KeyWord}
+use Rattle.rht_words.specs.Places.{Slot, SlotWord, ShapeWord, SeedWord, FutureWord, SerialWord, IsSlotWord, KeyWord}
 use Rattle.rht_words.specs.Shapes.{unpacked, size_of}
 use Rattle.rht_words.specs.Held as held
 use Rattle.rht_words.proofs.Memory.{Memory}
@@ -409,11 +409,7 @@ module _ (env : Env) (mix : ℕ → ℕ → ℕ → ℕ) where
       table = table;
       bucket = BucketMeans-own env mix c M M' G G' (members_used env mix M G whole) rely.locks rely.lists rely.chains rely.keys
           rely.owners rely.taken rely.tables rely.unbound known.bucket
-          (λ node has. (
-            record { mine = rely.nodes node has; among = has.among },
-            rely.words node has
-                ChainLink,
-          )) means.bucket;
+          (λ word all node has. (record { mine = rely.nodes node has; among = has.among }, rely.words node has word)) means.bucket;
       making = MakingMeans-stay c M M' G G' rely.holdings known.making means.making;
       work = WorkMeans-stay c M M' G G' whole
           (record {

@@ -10,8 +10,8 @@ use Rattle.rht_words.proofs.Members.{In-append_left, In-append_cases, in-middle}
 use Rattle.rht_ghost.proofs.Theory.Ghosts.{NodeHeld, Ghost, IsSince, is_taken_by, table_at, table_of_page}
 use Rattle.rht_ghost.proofs.Theory.Wholes.{chain_of, key_of, word_index, IsAt}
 use Rattle.rht_ghost.proofs.Theory.Passed.{NoKey, NoKey-same, home-from, at-from}
-use Rattle.rht_ghost.proofs.Theory.Knowns.{Armed, AtHome, AtNode, Collected, CollectedTo, CutsOut, Differing, Differs, FirstLink, Found, InList, InSlot, IsAmong, IsLeading, IsOwnersNode, KnownBucket, KnownList, KnownNode, KnownTable, Leads, LeadsTo, Listing, Locks, LocksTakenOut, Matching, Member, Missed, NoOwner, Nowhere, OnWay, Passes, Promotes, Replaces, Shaped, Stands, StandsInList, Succeeds, TakenOut, Unlocked, Unlocks, first_of_list, owners_of}
-use Rattle.rht_ghost.proofs.Theory.Knowledge.{ArmedFor, BucketMeans, HasLock, HasNode, HasTakenOut, HoldsLock, IsArmed, IsDiffering, IsFound, IsInList, IsMember, IsPassing, IsPlain, IsPlainList, IsReaching, IsShaped, IsStanding, ListMeans, NodeMeans, TableMeans, bucket_at}
+use Rattle.rht_ghost.proofs.Theory.Knowns.{Armed, AtHome, AtNode, Collected, CollectedTo, Copied, CopiedTo, LinkBehind, Differing, Differs, FirstLink, Found, InList, InSlot, IsAmong, IsLeading, IsOwnersNode, KnownBucket, KnownList, KnownNode, KnownTable, Leads, LeadsTo, Listing, Locks, LocksTakenOut, Matching, Member, Missed, NoOwner, Nowhere, OnWay, Passes, Promotes, Replaces, Shaped, Stands, StandsInList, Succeeds, TakenOut, Unlocked, Unlocks, first_of_list, owners_of}
+use Rattle.rht_ghost.proofs.Theory.Knowledge.{ArmedFor, BucketMeans, HasLock, HasNode, HasTakenOut, HoldsLock, IsArmed, IsDiffering, IsFound, IsMember, IsPassing, IsPlain, SpeaksOf, SpeaksOfList, speaks_of, IsReaching, IsReplacing, IsShaped, IsStanding, ListMeans, NodeMeans, TableMeans, bucket_at}
 use Rattle.rht_ghost.proofs.Theory.WaysStay.{IsWayTo-from, IsRightBehind-from}
 use Rattle.rht_ghost.proofs.Theory.Reliance.{ChainsStay, MembersUsed, TablesStay, since-low, WordStays}
 
@@ -19,6 +19,11 @@ module _ (env : Env) (mix : ℕ → ℕ → ℕ → ℕ) where
   -- ---- what is known outlives a step that leaves what it speaks of
 
   module _ (c : ℕ) (M M' : Memory) (G G' : Ghost) where
+    -- the caller's nodes stay its own, with such of their words, where there are any such
+    abbrev pub KeepsOwn : (NodeWord → Type 0) → Type 0
+    KeepsOwn Such = (word : NodeWord) → Such word → (node : ℕ) → HasNode env mix c G node
+        → HasNode env mix c G' node × (M' (Node node word) ≡ M (Node node word))
+
     -- of nodes: where the caller's stay its own, with their words
     module _ (mine : (node : ℕ) → HasNode env mix c G node → G'.node node ≡ NodeHeld c)
         (words : (node : ℕ) → HasNode env mix c G node → (word : NodeWord)
@@ -226,10 +231,13 @@ module _ (env : Env) (mix : ℕ → ℕ → ℕ → ℕ) where
           (owners_of-stay nodes (λ other i. same other (inr i)))
 
       -- of a list: where the owners of its nodes stay, and their links in chains
-      module _ (first : ℕ) (behind : List ℕ)
-          (owner_words : (node : ℕ) → In node (first ∷ behind)
-          → M' (Node node OwnerWord) ≡ M (Node node OwnerWord))
-          (links : (node : ℕ) → In node (first ∷ behind) → chain_of M' node ≡ chain_of M node) where
+      abbrev ListOwners : ℕ → List ℕ → Type 0
+      ListOwners first behind = (node : ℕ) → In node (first ∷ behind) → M' (Node node OwnerWord) ≡ M (Node node OwnerWord)
+
+      abbrev ListLinks : ℕ → List ℕ → Type 0
+      ListLinks first behind = (node : ℕ) → In node (first ∷ behind) → chain_of M' node ≡ chain_of M node
+
+      module _ (first : ℕ) (behind : List ℕ) (owner_words : ListOwners first behind) (links : ListLinks first behind) where
         none-stays : (node : ℕ) (before : Option ℕ) (owner : ℕ)
             → (is : StandsInList M (first ∷ behind) node before owner)
             → NoOwner M' owner is.among.front
@@ -237,7 +245,7 @@ module _ (env : Env) (mix : ℕ → ℕ → ℕ → ℕ) where
             (λ n i. owner_words n (subst (In n) (sym is.among.split)
             (In-append_left n is.among.front (node ∷ is.among.rear) i))) is.none
 
-        Stands-stay : (node : ℕ) (before : Option ℕ) (owner : ℕ)
+        abbrev Stands-stay : (node : ℕ) (before : Option ℕ) (owner : ℕ)
             → StandsInList M (first ∷ behind) node before owner
             → StandsInList M' (first ∷ behind) node before owner
         Stands-stay node before owner is = record { among = is.among; none = none-stays node before owner is }
@@ -248,7 +256,7 @@ module _ (env : Env) (mix : ℕ → ℕ → ℕ → ℕ) where
             ap owner_of (owner_words node (subst (In node) (sym among.split)
             (in-middle node among.front among.rear)))
 
-        Matching-stay : (node : ℕ) (before : Option ℕ) (owner : ℕ)
+        abbrev Matching-stay : (node : ℕ) (before : Option ℕ) (owner : ℕ)
             → IsOwnersNode M (first ∷ behind) node before owner
             → IsOwnersNode M' (first ∷ behind) node before owner
         Matching-stay node before owner is = record {
@@ -256,74 +264,84 @@ module _ (env : Env) (mix : ℕ → ℕ → ℕ → ℕ) where
           owner_is = owner-stays node before is.stands.among ∙ is.owner_is;
         }
 
+        first-owner : owner_of (M' (Node first OwnerWord)) ≡ owner_of (M (Node first OwnerWord))
+        first-owner = ap owner_of (owner_words first (inl refl))
+
         Leads-stay : (second : Option ℕ) (owner : ℕ) → IsLeading M first behind second owner
             → IsLeading M' first behind second owner
-        Leads-stay second owner is =
-            record {
-              owner_is = ap owner_of (owner_words first (inl refl))
-                  ∙ is.owner_is;
-              second_is = is.second_is;
-            }
+        Leads-stay second owner is = record { owner_is = first-owner ∙ is.owner_is; second_is = is.second_is }
 
         -- the second node is one of the list
         second_in : (second : ℕ) (rest : List ℕ) → Some second ≡ first_of_list rest → In second rest
         second_in second [] is = absurd (cc)
         second_in second (node ∷ rest) is = inl (let same : second ≡ node = cc in same)
 
-        ListMeans-stay : (known : KnownList) → IsPlainList env mix known → ListMeans env mix c M G first behind known
-            → ListMeans env mix c M' G' first behind known
-        ListMeans-stay (AtNode node before owner) plain is = Stands-stay node before owner is
-        ListMeans-stay (Differing node owner) plain is = record {
-          before = is.before;
-          stands = Stands-stay node is.before owner is.stands;
-          differs = λ e. is.differs (sym (owner-stays node is.before is.stands.among) ∙ e);
-        }
-        ListMeans-stay (Matching node before owner) plain is = Matching-stay node before owner is
-        ListMeans-stay (CutsOut node before link owner) plain is =
-            let stays = Matching-stay node (Some before) owner is.is in
-            record {
-              is = record {
-                stands = record {
-                  among = is.is.stands.among;
-                  none = none-stays node
-                      (Some before) owner is.is.stands;
-                };
-                owner_is = stays.owner_is;
-              };
-              link_is = is.link_is;
-            }
-        ListMeans-stay (Leads second owner) plain is = Leads-stay second owner is
-        ListMeans-stay (LeadsTo second link owner) plain is =
-            record { leads = Leads-stay second owner is.leads; link_is = links first (inl refl) ∙ is.link_is }
-        ListMeans-stay (Promotes second owner) plain is = record {
-          leads = Leads-stay (Some second) owner is.leads;
-          alike = links second (inr (second_in second behind is.leads.second_is)) ∙ is.alike
-              ∙ sym (links first (inl refl));
-        }
-        ListMeans-stay (FirstLink link) plain is = links first (inl refl) ∙ is
-        ListMeans-stay (Replaces node) plain is = absurd plain
-        ListMeans-stay (Succeeds node owner) plain is = absurd plain
-        ListMeans-stay (Collected node owners) plain is = record {
-          before = is.before;
-          among = is.among;
-          owners_are = is.owners_are ∙ sym (owners_of-stay is.among.front
-              (λ n i. owner_words n (subst (In n) (sym is.among.split)
-              (In-append_left n is.among.front (node ∷ is.among.rear) i))));
-        }
-        ListMeans-stay (CollectedTo node owners) plain is = record {
-          before = is.before;
-          among = is.among;
-          owners_are = is.owners_are ∙ sym (owners_of-stay (is.among.front ++ node ∷ []) (λ n i.
-              owner_words n (subst (In n) (sym is.among.split)
-              (elim (In-append_cases n is.among.front (node ∷ []) i) [
-                | inl l ↦ In-append_left n is.among.front (node ∷ is.among.rear) l
-                | inr r ↦ elim r [
-                  | inl e ↦ rw e (in-middle node is.among.front is.among.rear)
-                  | inr
-                      none ↦ absurd none
-                ]
-              ]))));
-        }
+        -- and where such words of the caller's own node stay
+        module _ (Such : NodeWord → Type 0) (own : KeepsOwn Such) where
+          Replaces-stay : Such ChainLink → (node : ℕ) → IsReplacing env mix c M G first node
+              → IsReplacing env mix c M' G' first node
+          Replaces-stay speaks node is =
+              let mine = own ChainLink speaks node is.has in
+              record { has = mine.0; alike = mine.1 ∙ is.alike ∙ sym (links first (inl refl)) }
+
+          ListMeans-stay : (known : KnownList) → SpeaksOfList env mix Such known → ListMeans env mix c M G first behind known
+              → ListMeans env mix c M' G' first behind known
+          ListMeans-stay (AtNode node before owner) speaks is = Stands-stay node before owner is
+          ListMeans-stay (Differing node owner) speaks is = record {
+            before = is.before;
+            stands = Stands-stay node is.before owner is.stands;
+            differs = λ e. is.differs (sym (owner-stays node is.before is.stands.among) ∙ e);
+          }
+          ListMeans-stay (Matching node before owner) speaks is = Matching-stay node before owner is
+          ListMeans-stay (LinkBehind node before link owner) speaks is =
+              record { is = Matching-stay node before owner is.is; link_is = is.link_is }
+          ListMeans-stay (Copied node before copy owner) speaks is =
+              let mine = own ListLink speaks copy is.has in
+              record { is = Matching-stay node before owner is.is; has = mine.0; list_is = mine.1 ∙ is.list_is }
+          ListMeans-stay (Leads second owner) speaks is = Leads-stay second owner is
+          ListMeans-stay (LeadsTo second link owner) speaks is =
+              record { leads = Leads-stay second owner is.leads; link_is = links first (inl refl) ∙ is.link_is }
+          ListMeans-stay (Promotes second owner) speaks is = record {
+            leads = Leads-stay (Some second) owner is.leads;
+            alike = links second (inr (second_in second behind is.leads.second_is)) ∙ is.alike
+                ∙ sym (links first (inl refl));
+          }
+          ListMeans-stay (FirstLink link) speaks is = links first (inl refl) ∙ is
+          ListMeans-stay (Replaces node) speaks is = Replaces-stay speaks node is
+          ListMeans-stay (CopiedTo copy link owner) speaks is =
+              let mine = own ListLink speaks copy is.has in
+              record {
+                owner_is = first-owner ∙ is.owner_is;
+                has = mine.0;
+                list_is = mine.1 ∙ is.list_is;
+                link_is = links first (inl refl) ∙ is.link_is;
+              }
+          ListMeans-stay (Succeeds copy owner) speaks is = record {
+            owner_is = first-owner ∙ is.owner_is;
+            list_is = (own ListLink speaks.1 copy is.replaces.has).1 ∙ is.list_is;
+            replaces = Replaces-stay speaks.0 copy is.replaces;
+          }
+          ListMeans-stay (Collected node owners) speaks is = record {
+            before = is.before;
+            among = is.among;
+            owners_are = is.owners_are ∙ sym (owners_of-stay is.among.front
+                (λ n i. owner_words n (subst (In n) (sym is.among.split)
+                (In-append_left n is.among.front (node ∷ is.among.rear) i))));
+          }
+          ListMeans-stay (CollectedTo node owners) speaks is = record {
+            before = is.before;
+            among = is.among;
+            owners_are = is.owners_are ∙ sym (owners_of-stay (is.among.front ++ node ∷ []) (λ n i.
+                owner_words n (subst (In n) (sym is.among.split)
+                (elim (In-append_cases n is.among.front (node ∷ []) i) [
+                  | inl l ↦ In-append_left n is.among.front (node ∷ is.among.rear) l
+                  | inr r ↦ elim r [
+                    | inl e ↦ rw e (in-middle node is.among.front is.among.rear)
+                    | inr
+                        none ↦ absurd none
+                  ]
+                ]))));
+          }
 
       IsFound-stay : (place word key node : ℕ) (before : Option ℕ) → IsFound env mix c M G place word key node before
           → IsFound env mix c M' G' place word key node before
@@ -347,89 +365,39 @@ module _ (env : Env) (mix : ℕ → ℕ → ℕ → ℕ) where
           ∙ ap G.bound found.key_is
 
       list_links : (place word key first : ℕ) (before : Option ℕ) (behind : List ℕ)
-          → IsFound env mix c M G place word key first before
-          → G.bound key ≡ first ∷ behind → (node : ℕ) → In node (first ∷ behind)
-          → chain_of M' node ≡ chain_of M node
+          → IsFound env mix c M G place word key first before → G.bound key ≡ first ∷ behind → ListLinks first behind
       list_links place word key first before behind found bound node i =
           chains (word_index env mix place) first node found.standing.lock.holder
           (found_there place word key first before found)
           (rw found.key_is (rw bound i))
 
-      list_owners : (key first : ℕ) (behind : List ℕ) → G.bound key ≡ first ∷ behind → (node : ℕ)
-          → In node (first ∷ behind)
-          → M' (Node node OwnerWord) ≡ M (Node node OwnerWord)
+      list_owners : (key first : ℕ) (behind : List ℕ) → G.bound key ≡ first ∷ behind → ListOwners first behind
       list_owners key first behind bound node i = let is = members.bound key node (rw bound i) in owners
           node is.0 is.1
-
-      InList-stay : (place word key first : ℕ) (before : Option ℕ) (known : KnownList) → IsPlainList env mix known
-          → IsInList env mix c M G place word key first before known
-          → IsInList env mix c M' G' place word key first before known
-      InList-stay place word key first before known plain means = record {
-        found = IsFound-stay place word key first before means.found;
-        behind = means.behind;
-        bound_to = bound-stays place word key first before means.found ∙ means.bound_to;
-        means = ListMeans-stay first means.behind (list_owners key first means.behind means.bound_to)
-            (list_links place word key first before means.behind means.found means.bound_to) known plain
-            means.means;
-      }
-
-      -- the caller's own node leads on as the first one does, where it has the node still, with its link
-      Replaces-stay : (place word key first : ℕ) (before : Option ℕ) (node : ℕ)
-          → (HasNode env mix c G node → HasNode env mix c G' node × (chain_of M' node ≡ chain_of M node))
-          → IsInList env mix c M G place word key first before (Replaces node)
-          → IsInList env mix c M' G' place word key first before (Replaces node)
-      Replaces-stay place word key first before node own means =
-          let mine = own means.means.has in
-          record {
-            found = IsFound-stay place word key first before means.found;
-            behind = means.behind;
-            bound_to = bound-stays place word key first before means.found ∙ means.bound_to;
-            means = record {
-              has = mine.0;
-              alike = mine.1 ∙ means.means.alike
-                  ∙ sym (list_links place word key first before means.behind means.found means.bound_to
-                  first (inl refl));
-            };
-          }
-
-      -- and the first one keeps its owner, and is the only one still
-      Succeeds-stay : (place word key first : ℕ) (before : Option ℕ) (node owner : ℕ)
-          → (HasNode env mix c G node → HasNode env mix c G' node × (chain_of M' node ≡ chain_of M node))
-          → IsInList env mix c M G place word key first before (Succeeds node owner) → IsInList env mix c M' G' place word key first before (Succeeds node owner)
-      Succeeds-stay place word key first before node owner own means =
-          let leads = InList-stay place word key first before (Leads None owner) tt
-          (record { found = means.found; behind = means.behind; bound_to = means.bound_to; means = means.means.leads }) in
-          let replaces = Replaces-stay place word key first before node own
-          (record { found = means.found; behind = means.behind; bound_to = means.bound_to; means = means.means.replaces }) in
-          record {
-            found = leads.found;
-            behind = leads.behind;
-            bound_to = leads.bound_to;
-            means = record { leads = leads.means; replaces = replaces.means };
-          }
 
       TakenOut-stay : (node : ℕ) → HasTakenOut env mix c G node → HasTakenOut env mix c G' node
       TakenOut-stay node means = record { among = means.among; taken = taken node ∙ means.taken }
 
-      pub BucketMeans-stay : (known : KnownBucket) → IsPlain env mix known → BucketMeans env mix c M G known
-          → BucketMeans env mix c M' G' known
-      BucketMeans-stay Unlocked plain means = tt
-      BucketMeans-stay (Unlocks place word) plain means = HasLock-stay place word means
-      BucketMeans-stay (Armed place word port) plain means = IsArmed-stay place word port means
-      BucketMeans-stay (Locks place word) plain means = HoldsLock-stay place word means
-      BucketMeans-stay (Stands place word key node before count) plain means = IsReaching-stay place word key
+      -- where such words of the caller's own node stay
+      pub BucketMeans-such : (Such : NodeWord → Type 0) → KeepsOwn Such → (known : KnownBucket) → SpeaksOf env mix Such known
+          → BucketMeans env mix c M G known → BucketMeans env mix c M' G' known
+      BucketMeans-such Such own Unlocked speaks means = tt
+      BucketMeans-such Such own (Unlocks place word) speaks means = HasLock-stay place word means
+      BucketMeans-such Such own (Armed place word port) speaks means = IsArmed-stay place word port means
+      BucketMeans-such Such own (Locks place word) speaks means = HoldsLock-stay place word means
+      BucketMeans-such Such own (Stands place word key node before count) speaks means = IsReaching-stay place word key
           node before count means
-      BucketMeans-stay (Differs place word key node before count) plain means = IsDiffering-stay place word key
+      BucketMeans-such Such own (Differs place word key node before count) speaks means = IsDiffering-stay place word key
           node before count means
-      BucketMeans-stay (Missed place word key) plain means = record {
+      BucketMeans-such Such own (Missed place word key) speaks means = record {
         lock = HoldsLock-stay place word means.lock;
         none = rw (nodes-stay place word means.lock)
             (NoKey-stay key (word_index env mix place) (bucket_at env mix G place).nodes (λ node i. i) means.none);
       }
-      BucketMeans-stay (Found place word key node before) plain means = IsFound-stay place word key node
+      BucketMeans-such Such own (Found place word key node before) speaks means = IsFound-stay place word key node
           before means
-      BucketMeans-stay (Member place word key node) plain means = IsMember-stay place word key node means
-      BucketMeans-stay (Listing place word key node owner) plain means =
+      BucketMeans-such Such own (Member place word key node) speaks means = IsMember-stay place word key node means
+      BucketMeans-such Such own (Listing place word key node owner) speaks means =
           let j = word_index env mix place in
           let is = members.member j means.first means.member.there in
           record {
@@ -443,50 +411,23 @@ module _ (env : Env) (mix : ℕ → ℕ → ℕ → ℕ) where
             listed = means.listed;
             owner_is = ap owner_of (owners means.first is.0 is.1) ∙ means.owner_is;
           }
-      BucketMeans-stay (InList place word key first before known) plain means = InList-stay place word
-          key first before known plain means
-      BucketMeans-stay (TakenOut node) plain means = TakenOut-stay node means
-      BucketMeans-stay (LocksTakenOut place word node) plain means =
+      BucketMeans-such Such own (InList place word key first before known) speaks means = record {
+        found = IsFound-stay place word key first before means.found;
+        behind = means.behind;
+        bound_to = bound-stays place word key first before means.found ∙ means.bound_to;
+        means = ListMeans-stay first means.behind (list_owners key first means.behind means.bound_to)
+            (list_links place word key first before means.behind means.found means.bound_to) Such own known speaks means.means;
+      }
+      BucketMeans-such Such own (TakenOut node) speaks means = TakenOut-stay node means
+      BucketMeans-such Such own (LocksTakenOut place word node) speaks means =
           record { lock = HoldsLock-stay place word means.lock; took = TakenOut-stay node means.took }
 
-      -- the same of what speaks of the caller's own node, where it has that still, with its link
-      pub BucketMeans-own : (known : KnownBucket)
-          → ((node : ℕ) → HasNode env mix c G node → HasNode env mix c G' node × (chain_of M' node ≡ chain_of M node))
-          → BucketMeans env mix c M G known → BucketMeans env mix c M' G' known
-      BucketMeans-own Unlocked own means = tt
-      BucketMeans-own (Unlocks place word) own means = BucketMeans-stay (Unlocks place word) tt means
-      BucketMeans-own (Armed place word port) own means = BucketMeans-stay (Armed place word port) tt means
-      BucketMeans-own (Locks place word) own means = BucketMeans-stay (Locks place word) tt means
-      BucketMeans-own (Stands place word key node before count) own means = BucketMeans-stay
-          (Stands place word key node before count) tt means
-      BucketMeans-own (Differs place word key node before count) own means = BucketMeans-stay
-          (Differs place word key node before count) tt means
-      BucketMeans-own (Missed place word key) own means = BucketMeans-stay (Missed place word key) tt means
-      BucketMeans-own (Found place word key node before) own means = BucketMeans-stay
-          (Found place word key node before) tt means
-      BucketMeans-own (Member place word key node) own means = BucketMeans-stay
-          (Member place word key node) tt means
-      BucketMeans-own (Listing place word key node owner) own means = BucketMeans-stay
-          (Listing place word key node owner) tt means
-      BucketMeans-own (InList place word key first before known) own means = go known means
-        where
-          go : (known : KnownList) → IsInList env mix c M G place word key first before known
-              → IsInList env mix c M' G' place word key first before known
-          go (AtNode node b owner) m = InList-stay place word key first before (AtNode node b owner) tt m
-          go (Differing node owner) m = InList-stay place word key first before (Differing node owner) tt m
-          go (Matching node b owner) m = InList-stay place word key first before (Matching node b owner) tt m
-          go (CutsOut node b link owner) m = InList-stay place word key first before
-              (CutsOut node b link owner) tt m
-          go (Leads second owner) m = InList-stay place word key first before (Leads second owner) tt m
-          go (LeadsTo second link owner) m = InList-stay place word key first before
-              (LeadsTo second link owner) tt m
-          go (Promotes second owner) m = InList-stay place word key first before (Promotes second owner) tt m
-          go (FirstLink link) m = InList-stay place word key first before (FirstLink link) tt m
-          go (Replaces node) m = Replaces-stay place word key first before node (own node) m
-          go (Succeeds node owner) m = Succeeds-stay place word key first before node owner (own node) m
-          go (Collected node owners) m = InList-stay place word key first before (Collected node owners) tt m
-          go (CollectedTo node owners) m = InList-stay place word key first before
-              (CollectedTo node owners) tt m
-      BucketMeans-own (TakenOut node) own means = BucketMeans-stay (TakenOut node) tt means
-      BucketMeans-own (LocksTakenOut place word node) own means = BucketMeans-stay
-          (LocksTakenOut place word node) tt means
+      -- of what doesn't speak of the caller's own node, and of whatever it is, where that is still its own, with its words
+      pub BucketMeans-stay : (known : KnownBucket) → IsPlain env mix known → BucketMeans env mix c M G known
+          → BucketMeans env mix c M' G' known
+      BucketMeans-stay known plain means = BucketMeans-such (λ word. ⊥) (λ word none. absurd none) known plain means
+
+      pub BucketMeans-own : (known : KnownBucket) → KeepsOwn (λ word. Unit {0}) → BucketMeans env mix c M G known
+          → BucketMeans env mix c M' G' known
+      BucketMeans-own known own means =
+          BucketMeans-such (λ word. Unit {0}) own known (speaks_of env mix (λ word. Unit {0}) (λ word. tt) known) means

@@ -35,20 +35,23 @@ pub data KnownTable : Type 0 where
   AtHome : ℕ → ℕ → Option ℕ → ℕ → KnownTable
 
 -- Of the list of a port whose first node was found. It stands at a node, behind another one or none, and no owner before it is
--- this one; nor is the node's; or the node's is, and then which link is behind it. The first node has the owner, and which one is
--- second; then which link is behind the first one in the chain; and that the second one leads on as the first one does. Which link
--- is behind the first one; and that the caller's own node leads on as that does, where the first one has this owner and is the only
--- one, or whoever has it. The owners of the nodes before this one, and those up to this one.
+-- this one; nor is the node's; or the node's is, and then which link is behind it, and that the caller's own node has that link. The
+-- first node has the owner, and which one is second; then which link is behind the first one in the chain; and that the second one leads
+-- on as the first one does. Which link is behind the first one; and that the caller's own node leads on as that does. The same where the
+-- first one has this owner, and the own node has the link behind it in the list: before its link in the chain is known, then which that
+-- is, and that the own node leads on so. The owners of the nodes before this one, and those up to this one.
 pub data KnownList : Type 0 where
   AtNode : ℕ → Option ℕ → ℕ → KnownList
   Differing : ℕ → ℕ → KnownList
   Matching : ℕ → Option ℕ → ℕ → KnownList
-  CutsOut : ℕ → ℕ → ℕ → ℕ → KnownList
+  LinkBehind : ℕ → Option ℕ → ℕ → ℕ → KnownList
+  Copied : ℕ → Option ℕ → ℕ → ℕ → KnownList
   Leads : Option ℕ → ℕ → KnownList
   LeadsTo : Option ℕ → ℕ → ℕ → KnownList
   Promotes : ℕ → ℕ → KnownList
   FirstLink : ℕ → KnownList
   Replaces : ℕ → KnownList
+  CopiedTo : ℕ → ℕ → ℕ → KnownList
   Succeeds : ℕ → ℕ → KnownList
   Collected : ℕ → List ℕ → KnownList
   CollectedTo : ℕ → List ℕ → KnownList
@@ -236,8 +239,8 @@ pub record IsOwnersNode (M : Memory) (nodes : List ℕ) (node : ℕ) (before : O
   pub stands : StandsInList M nodes node before owner
   pub owner_is : owner_of (M (Node node OwnerWord)) ≡ owner
 
-pub record IsCutOut (M : Memory) (nodes : List ℕ) (node before link owner : ℕ) : Type 0 where
-  pub is : IsOwnersNode M nodes node (Some before) owner
+pub record IsLinkBehind (M : Memory) (nodes : List ℕ) (node : ℕ) (before : Option ℕ) (link owner : ℕ) : Type 0 where
+  pub is : IsOwnersNode M nodes node before owner
   pub link_is : list_link is.stands.among.rear ≡ link
 
 pub record IsLeading (M : Memory) (first : ℕ) (behind : List ℕ) (second : Option ℕ) (owner : ℕ) : Type 0 where

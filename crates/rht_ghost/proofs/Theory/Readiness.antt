@@ -1,12 +1,12 @@
 -- What a store that changes what a port is bound to makes of the ghost, and what must be known where one binds a port first.
-use Rattle.std.proofs.Common.{◌≡◌, ◌≢◌, ◌⊎◌, ℕ, ◌^◌, ◌+◌, ◌<◌, ◌≤◌, List, [], ◌∷◌, ◌++◌, Some, None, Bool, true, false, ◌*◌, ◌/◌, ◌%◌}
+use Rattle.std.proofs.Common.{◌≡◌, ◌≢◌, ◌⊎◌, ℕ, ◌+◌, ◌<◌, ◌≤◌, List, [], ◌∷◌, ◌++◌, Some, None, Bool, true, false, ◌*◌, ◌/◌, ◌%◌}
 use Rattle.rht_words.specs.declared.env.Env.{Env}
 use Rattle.rht_words.specs.Links.{link_of, head_of}
 use Rattle.rht_words.specs.Places.{Slot, SeedWord, SerialWord, Node, ListLink}
 use Rattle.rht_words.specs.Members.{In}
 use Rattle.rht_words.proofs.Memory.{Memory}
 use Rattle.rht_words.specs.Ports.{IsPort}
-use Rattle.rht_ghost.proofs.Theory.Ghosts.{put, Bucket, Owner, First, seat_of, is_used, PageOwner, Ghost, table_at, has_bit, PageHeld, PageOf, IsSince, is_entry, lock_bit}
+use Rattle.rht_ghost.proofs.Theory.Ghosts.{put, Bucket, Owner, First, Behind, seat_of, is_used, PageOwner, Ghost, table_at, has_bit, PageHeld, PageOf, IsSince, is_entry, lock_bit}
 use Rattle.rht_ghost.proofs.Theory.Wholes.{chain_of, key_of, place_at, MovesNone}
 use Rattle.rht_ghost.proofs.Theory.Knowledge.{HasNode, ArmedFor, IsMade}
 use Rattle.rht_ghost.proofs.Theory.Ways.{entered_table, IsInUse}
@@ -70,7 +70,8 @@ module _ (env : Env) (mix : ℕ → ℕ → ℕ → ℕ) where
 
   -- What is known when what a port is bound to changes. Its only node goes out of its bucket; or another node
   -- comes into the first one's place, which is nobody's or was behind that one, and those behind it were the
-  -- port's; or a node behind the first one goes out of the list. The bucket is locked.
+  -- port's; or a node behind the first one goes out of the list; or another node comes into the place of that one, which is nobody's.
+  -- The bucket is locked.
   pub record IsUnlinking (change : Change) (G : Ghost) : Type 0 where
     pub first : ℕ
     pub front : List ℕ
@@ -117,8 +118,28 @@ module _ (env : Env) (mix : ℕ → ℕ → ℕ → ℕ) where
     pub used : is_used (G.node change.other) ≡ true
     pub gone : seat_of change.other_owner ≡ None
 
+  pub record IsSwapping (change : Change) (M : Memory) (G : Ghost) : Type 0 where
+    pub first : ℕ
+    pub behind : List ℕ
+    pub rest : List ℕ
+    pub bound_to : G.bound change.port ≡ first ∷ behind
+    pub now : change.nodes ≡ first ∷ rest
+    pub listed : (n : ℕ) → In n rest → (n ≡ change.other) ⊎ In n behind
+    pub locked : lock_bit (G.bucket change.place).holder ≡ 1
+    pub same : change.bucket ≡ G.bucket change.place
+    pub differs : change.other ≢ change.one
+    pub member : In change.one behind
+    pub seatless : seat_of (G.node change.one) ≡ None
+    pub used : is_used (G.node change.one) ≡ true
+    pub gone : seat_of change.one_owner ≡ None
+    pub from : is_used (G.node change.other) ≡ false
+    pub owner : change.other_owner ≡ Behind change.port
+    pub among : change.other < env.geometry.nodes
+    pub key_is : key_of M change.other ≡ change.port
+
   abbrev pub IsRebinding : Change → Memory → Ghost → Type 0
-  IsRebinding change M G = IsUnlinking change G ⊎ IsReplacing change M G ⊎ IsShortening change G
+  IsRebinding change M G =
+      IsUnlinking change G ⊎ IsReplacing change M G ⊎ IsShortening change G ⊎ IsSwapping change M G
 
   -- What is known when a bind is armed in a bucket: the caller has locked it, and its table is the last one.
   pub record IsArming (d j : ℕ) (G : Ghost) : Type 0 where

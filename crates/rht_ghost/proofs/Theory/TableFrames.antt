@@ -410,7 +410,7 @@ module _ (env : Env) (mix : ℕ → ℕ → ℕ → ℕ) where
             (chains_stay env mix c M M' G a v whole write (λ n used. apart.nodes n ChainLink))
             (λ n l used. node_word n KeyWord l) (λ n l used. node_word n OwnerWord l) (λ n. refl) kept_stay
             (λ port τ j is. is.unbound) known.bucket
-            (λ n has. (record { mine = has.mine; among = has.among }, node_word n ChainLink has.among))
+            (λ w each n has. (record { mine = has.mine; among = has.among }, node_word n w has.among))
             knows.means.bucket;
         making = means;
         work = WorkMeans-stay env mix c M M' G G' whole (record {

@@ -644,7 +644,7 @@ module _ (env : Env) (mix : ℕ → ℕ → ℕ → ℕ) where
             (chains_stay env mix d M M' G a v whole write (λ n used. of_pages.apart.nodes n ChainLink))
             (λ n l used. gone_node n KeyWord l) (λ n l used. gone_node n OwnerWord l) (λ n. refl) gone_stay
             (λ port σ j is. is.unbound) known.bucket
-            (λ n has. (record { mine = has.mine; among = has.among }, gone_node n ChainLink has.among))
+            (λ w each n has. (record { mine = has.mine; among = has.among }, gone_node n w has.among))
             knows.means.bucket;
         making = making_is;
         work = work_is;

@@ -1,6 +1,6 @@
 -- What is true of the words and the ghost after each event of each run. Tables stand in the order in which they were attached.
 -- The first of the nodes to which a port is bound stands in a chain, and the others in its list behind it.
-use Rattle.std.proofs.Common.{◌≡◌, ◌↔◌, ℕ, ◌^◌, ◌+◌, ◌-◌, ◌*◌, ◌⊎◌, ◌/◌, ◌%◌, ◌<◌, ◌≤◌, max, nat_lt, cond, true, false, List, [], ◌∷◌, Option, Some, None, arith, refl, sym, ap, ◌∙◌, ◌≢◌, inl, inr}
+use Rattle.std.proofs.Common.{◌≡◌, ◌↔◌, ℕ, ◌+◌, ◌-◌, ◌*◌, ◌⊎◌, ◌/◌, ◌%◌, ◌<◌, ◌≤◌, max, nat_lt, cond, true, false, List, [], ◌∷◌, Option, Some, None, arith, refl, sym, ap, ◌∙◌, ◌≢◌, inl, inr}
 use Rattle.std.specs.Int.{bit_at}
 use Rattle.rht_words.specs.declared.env.Env.{Env}
 use Rattle.rht_words.specs.declared.config.Kind.TheVariants.{Single}

@@ -94,6 +94,12 @@ const BIND_2: Asked = Asked::Bind {
     once: false,
 };
 
+const BIND_3: Asked = Asked::Bind {
+    port: 80,
+    owner: 3,
+    once: false,
+};
+
 const BIND_ONCE: Asked = Asked::Bind {
     port: 80,
     owner: 1,
@@ -151,6 +157,8 @@ const WALK: Asked = Asked::Walk {
 const BOUND_1: Line = (BIND_1, BOUND, &[]);
 
 const BOUND_2: Line = (BIND_2, BOUND, &[]);
+
+const BOUND_3: Line = (BIND_3, BOUND, &[]);
 
 const BOUND_100: Line = (
     Asked::Bind {
@@ -257,8 +265,8 @@ const SINGLE: [(&[Line], bool); 38] = [
 ];
 
 /// Histories of tables of lists. After the binds of 1, 2 and 1 the list is 1, 2, 1; without its
-/// first 1 it is 2, 1.
-const LISTED: [(&[Line], bool); 18] = [
+/// first 1 it is 2, 1, and with a 2 in its place 2, 2, 1.
+const LISTED: [(&[Line], bool); 21] = [
     (&[BOUND_1, (ALL, Reply::Listed { len: 1 }, &[1])], true),
     (&[(ALL, Reply::Listed { len: 0 }, &[])], true),
     (&[(ALL, Reply::Missing, &[])], false),
@@ -338,12 +346,25 @@ const LISTED: [(&[Line], bool); 18] = [
     (
         &[
             BOUND_1,
+            BOUND_2,
             BOUND_1,
-            NOT_REBOUND,
-            (ALL, Reply::Listed { len: 2 }, &[1, 1]),
+            REBOUND,
+            (ALL, Reply::Listed { len: 3 }, &[2, 2, 1]),
         ],
         true,
     ),
+    (
+        &[
+            BOUND_1,
+            BOUND_2,
+            BOUND_1,
+            REBOUND,
+            (ALL, Reply::Listed { len: 3 }, &[1, 2, 2]),
+        ],
+        false,
+    ),
+    (&[BOUND_1, BOUND_1, NOT_REBOUND], false),
+    (&[NOT_REBOUND, (ALL, Reply::Listed { len: 0 }, &[])], true),
     (
         &[BOUND_1, REBOUND, (ALL, Reply::Listed { len: 1 }, &[2])],
         true,
@@ -368,6 +389,45 @@ fn assert_legal(
 fn legal_histories(rt: HostRuntime) -> Result<(), Fail> {
     assert_legal(&rt, rt.alloc(), Kind::Single, &SINGLE)?;
     assert_legal(&rt, rt.alloc(), Kind::Listed, &LISTED)?;
+    Ok(())
+}
+
+/// Rebinds of port 80 in a table of lists whose list is 3, 2, 1: the owner, the new one, the reply,
+/// the list behind it, and whether that is legal.
+const REBINDS: [(u32, u32, Reply, [u32; 3], bool); 12] = [
+    // The first owner, the one in the middle, and the last one.
+    (3, 9, Reply::Rebound, [9, 2, 1], true),
+    (2, 9, Reply::Rebound, [3, 9, 1], true),
+    (1, 9, Reply::Rebound, [3, 2, 9], true),
+    // The new owner has the old one's place, and no other.
+    (2, 9, Reply::Rebound, [9, 3, 1], false),
+    (2, 9, Reply::Rebound, [3, 2, 1], false),
+    (2, 9, Reply::Absent, [3, 2, 1], false),
+    // It may have a place already, and may be the old one.
+    (2, 3, Reply::Rebound, [3, 3, 1], true),
+    (2, 2, Reply::Rebound, [3, 2, 1], true),
+    (2, 2, Reply::Absent, [3, 2, 1], false),
+    // An owner that isn't bound.
+    (9, 2, Reply::Absent, [3, 2, 1], true),
+    (9, 2, Reply::Rebound, [3, 2, 1], false),
+    // A refusal changes nothing.
+    (2, 9, Reply::NoNode, [3, 2, 1], true),
+];
+
+#[test]
+fn rebinds_in_lists(rt: HostRuntime) -> Result<(), Fail> {
+    for (owner, new, reply, list, want) in REBINDS {
+        let port = 80;
+        let lines: [Line; 5] = [
+            BOUND_1,
+            BOUND_2,
+            BOUND_3,
+            (Asked::Rebind { port, owner, new }, reply, &[]),
+            (ALL, Reply::Listed { len: 3 }, &list),
+        ];
+        let legal = legal(rt.alloc(), Kind::Listed, &lines)?;
+        assert_row(&rt, (owner, new, reply), legal, want);
+    }
     Ok(())
 }
 

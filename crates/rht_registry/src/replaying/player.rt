@@ -3,7 +3,6 @@
 ghost use Rattle.std.specs.Prelude.{◌≡◌, ◌+◌, ◌^◌, ◌<◌, ◌≤◌, ℕ, List, Some, drop, length, IfOk, IfSome, slice_get, slice_index, slice_set, vec_len};
 ghost use Rattle.rht_words.specs.Settled.{IsSettled};
 ghost use Rattle.rht_model.specs.declared.history.Call.{Call};
-ghost use Rattle.rht_core.specs.Runs.{IsBuiltFor};
 ghost use Rattle.rht_core.specs.Serving.{calls_of};
 ghost use Rattle.rht_registry.specs.Replays.{playing_from, readied, event_of, is_through};
 ghost use Rattle.rht_registry.specs.Players.{playing_of, CanPlay, Takes, AreEnrolled};
@@ -51,10 +50,10 @@ impl<M: Mix> Player<M> {
     /// An event of a caller: where that is in no call it takes its next command; then it performs
     /// one operation. `None` where the limit stands in the event's place, which ends the replay.
     pub fn event(&mut self, commands: &[(u32, Call)], caller: u32) -> Option<Stepped>
-        requires can { CanPlay commands.now self.old }
+        requires can { CanPlay self.old }
         requires caller { caller < self.old.state.env.geometry.callers }
         ensures event { (playing_of commands.now self.new, result) ≡ event_of M.mix_of (playing_of commands.now self.old) caller }
-        ensures can { CanPlay commands.now self.new }
+        ensures can { CanPlay self.new }
         ensures env { self.new.state.env ≡ self.old.state.env }
     {
         if self.made >= MOST_EVENTS {
@@ -68,11 +67,11 @@ impl<M: Mix> Player<M> {
 
     /// Whether the caller is in no call and has no command left.
     pub fn is_through(&mut self, commands: &[(u32, Call)], caller: u32) -> bool
-        requires can { CanPlay commands.now self.old }
+        requires can { CanPlay self.old }
         requires caller { caller < self.old.state.env.geometry.callers }
         ensures through { result ≡ is_through (playing_of commands.now self.old) caller }
         ensures playing { playing_of commands.now self.new ≡ playing_of commands.now self.old }
-        ensures can { CanPlay commands.now self.new }
+        ensures can { CanPlay self.new }
     {
         if !self.state.local(caller).is_idle() {
             return false;
@@ -82,10 +81,10 @@ impl<M: Mix> Player<M> {
 
     /// Gives the caller its next command, where it is in no call and has one.
     fn ready(&mut self, commands: &[(u32, Call)], caller: u32)
-        requires can { CanPlay commands.now self.old }
+        requires can { CanPlay self.old }
         requires caller { caller < self.old.state.env.geometry.callers }
         ensures playing { playing_of commands.now self.new ≡ readied M.mix_of (playing_of commands.now self.old) caller }
-        ensures can { CanPlay commands.now self.new }
+        ensures can { CanPlay self.new }
         ensures env { self.new.state.env ≡ self.old.state.env }
         ensures made { self.new.made ≡ self.old.made }
     {
@@ -99,13 +98,12 @@ impl<M: Mix> Player<M> {
 
     /// The caller's next command, where it has one. From now on it isn't left any longer.
     fn take(&mut self, commands: &[(u32, Call)], caller: u32) -> Option<Call>
-        requires can { CanPlay commands.now self.old }
+        requires can { CanPlay self.old }
         requires caller { caller < self.old.state.env.geometry.callers }
         ensures taken { Takes (playing_of commands.now self.old) (playing_of commands.now self.new) caller result }
-        ensures built { IfSome result (IsBuiltFor self.old.state.env.config.kind) }
         ensures state { self.new.state ≡ self.old.state }
         ensures made { self.new.made ≡ self.old.made }
-        ensures can { CanPlay commands.now self.new }
+        ensures can { CanPlay self.new }
     {
         let place = self.look(commands, caller);
         if place >= commands.len() {
@@ -118,7 +116,7 @@ impl<M: Mix> Player<M> {
     /// The place of the caller's next command, or one past all commands where it has none. From now
     /// on it is looked for from there.
     fn look(&mut self, commands: &[(u32, Call)], caller: u32) -> usize
-        requires can { CanPlay commands.now self.old }
+        requires can { CanPlay self.old }
         requires caller { caller < self.old.state.env.geometry.callers }
         ensures next { self.new.next.items ≡ slice_set self.old.next.items caller result }
         ensures left { calls_of (caller + 1) (drop (slice_index self.old.next.items caller) commands.now)

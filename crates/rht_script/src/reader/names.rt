@@ -75,7 +75,7 @@ pub const ALL: &[u8] = b"all";
 /// The verb that takes a binding out.
 pub const RELEASE: &[u8] = b"release";
 
-/// The verb that puts a new owner in the only one's place.
+/// The verb that puts a new owner in another one's place.
 pub const REBIND: &[u8] = b"rebind";
 
 /// The verb that shows each bound port with its first owner.

@@ -239,16 +239,12 @@ pub const FAULTS: &[(&str, u32, u8)] = &[
     ("table single\n1 bind 4294967296 x\n", 2, 4),
     ("table single\n1 find x 100\n", 2, 3),
     ("table single\n1 bind 80 4294967296 7\n", 2, 4),
-    // The table is of the wrong kind, which is asked last.
-    ("table listed\n1 rebind 80 1 2\n", 2, 7),
-    ("table listed max 8\n# a\n1 rebind 80 1 1", 3, 7),
+    // A rebind in a table of lists.
     ("table listed\n1 rebind 80 1\n", 2, 2),
     ("table listed\n1 rebind 80 1 2 3\n", 2, 2),
     ("table listed\n1 rebind 80 x 2\n", 2, 3),
     ("table listed\n1 rebind 80 1 4294967296\n", 2, 4),
-    ("table listed\n2 rebind 80 1 2\n", 2, 4),
-    ("table listed\n1 rebind 80 1 2\n1 lookup\n", 2, 7),
-    ("table listed\n1 lookup\n1 rebind 80 1 2\n", 2, 2),
+    ("table listed\n1 rebind 80 1 2\n1 lookup\n", 3, 2),
     // The first line at fault, with those that are skipped counted too.
     ("table single\n1 find x\n1 lookup\n", 2, 3),
     ("\n# a\ntable single\n\n# b\n 1 find\n2 find\n", 6, 2),

@@ -5,6 +5,3 @@ use Rattle.rht_core_tests.proofs.runs.assert_told.Goals as goal
 pub returns : goal.returns
 returns g c =
     ap (λ p. p.0.env) c.step-stepped.ensures ∙ event-env g.row.M.Denot g.M.Mix.mix_of c.args.state.now _
-
-pub step-stepped-requires : goal.step-stepped-requires
-step-stepped-requires g c = c.event.ensures c.args.state.now.env.config.kind

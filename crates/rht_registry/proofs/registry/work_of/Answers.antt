@@ -1,7 +1,5 @@
 use Rattle.std.proofs.Common.{◌≡◌, ℕ, ◌+◌, ◌<◌, false, length, take, sym, subst, arith}
 use Rattle.rht_words.specs.declared.config.Config.{Config}
-use Rattle.rht_model.specs.declared.history.Call.{Call}
-use Rattle.rht_core.specs.Runs.{IsBuiltFor}
 use Rattle.rht_registry.proofs.ServedCalls.{new-below, served-kept, served-own, served-other, served-same}
 use Rattle.rht_registry.proofs.SoundCommands.{IsCommandFor, sound-commands, next-command}
 use Rattle.rht_registry.proofs.registry.work_of.Goals.{then-command-worker+in_ok-push, else-command-worker}
@@ -11,20 +9,6 @@ pub overflow_add-worker : goal.overflow_add-worker
 overflow_add-worker g c =
     let few = new-below g.M.Mix.mix_of c.args.table.now c.args.number c.args.pass c.requires.new in
     omega (arith, few)
-
-pub serve-reply-requires-clause-kind : goal.serve-reply-requires-clause-kind
-serve-reply-requires-clause-kind g c =
-    let config = c.args.script.now.config in
-    let items = c.deref-command-items.result.now in
-    let i = c.loop-command.command-index in
-    let commands = c.args.script.now.commands.items in
-    let within : i < length items = omega arith in
-    let item = c.command-item.result in
-    let command =
-    next-command (IsCommandFor config) items commands i item c.loop-command.invariant.items
-    (sound-commands c.args.script.now.form config commands c.requires.can.sound.commands) within in
-    subst (λ (k : Config). IsBuiltFor k.kind item.1) (sym c.requires.can.config)
-    (subst (λ (command : ℕ × Call). IsBuiltFor config.kind command.1) (sym c.command-item.is) command.kind)
 
 pub loop-command-preserved : goal.loop-command-preserved
 loop-command-preserved g c =

@@ -10,6 +10,6 @@ invariant-loop g l = record {
   rest : StillToPlay g.O.Sink.held g.O.Sink.faults l.initial.out l.out
       (times (most_events + 1) (finishing g.M.Mix.mix_of (l.worker - 1)) (l.number, playing_of l.commands l.initial.player))
       (times (most_events + 1 - l.counter) (finishing g.M.Mix.mix_of (l.worker - 1)) (l.calls, playing_of l.commands l.player));
-  can : CanPlay l.commands l.player;
+  can : CanPlay l.player;
   env : l.player.state.env ≡ l.initial.player.state.env;
 }

@@ -10,6 +10,6 @@ invariant-loop-line g l = record {
   rest : StillToPlay g.O.Sink.held g.O.Sink.faults l.initial.out l.out
       (schedule_played g.M.Mix.mix_of l.schedule (playing_of l.commands l.initial.player))
       (schedule_played g.M.Mix.mix_of (drop l.line-index l.schedule) (playing_of l.commands l.player));
-  can : CanPlay l.commands l.player;
+  can : CanPlay l.player;
   env : l.player.state.env ≡ l.initial.player.state.env;
 }

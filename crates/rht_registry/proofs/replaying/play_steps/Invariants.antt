@@ -10,6 +10,6 @@ invariant-loop g l = record {
   rest : StillToPlay g.O.Sink.held g.O.Sink.faults l.initial.out l.out
       (times l.number (stepping g.M.Mix.mix_of l.shown (l.worker - 1)) (playing_of l.commands l.initial.player))
       (times (l.number - l.counter) (stepping g.M.Mix.mix_of l.shown (l.worker - 1)) (playing_of l.commands l.player));
-  can : CanPlay l.commands l.player;
+  can : CanPlay l.player;
   env : l.player.state.env ≡ l.initial.player.state.env;
 }

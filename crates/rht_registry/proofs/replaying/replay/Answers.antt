@@ -5,7 +5,7 @@ use Rattle.rht_registry.specs.Replays.{Playing, schedule_played, end_text, repla
 use Rattle.rht_registry.specs.Players.{playing_of, Writes}
 use Rattle.rht_io.proofs.ToldLemmas.{Puts-longer}
 use Rattle.rht_registry.proofs.PlayedParts.{Writes-failed, Writes-after, Writes-nothing}
-use Rattle.rht_registry.proofs.ReplayEnds.{env_of, env_of-config, lines-for, commands-for, replay_text-one, replay_text-is, replay-in_run}
+use Rattle.rht_registry.proofs.ReplayEnds.{env_of, env_of-config, lines-for, replay_text-one, replay_text-is, replay-in_run}
 use Rattle.rht_registry.proofs.replaying.replay.Goals as goal
 
 pub returns-in_err-player : goal.returns-in_err-player
@@ -31,8 +31,6 @@ play_schedule-requires-clause-can g c =
     let player = c.in_ok-player.player in
     record {
       places = c.in_ok-player.ensures.places;
-      built = commands-for script.form script.config player.state.env script.commands.items c.deref.result.now c.in_ok-player.ensures.config
-          c.deref.ensures.value c.requires.sound.commands;
     }
 
 pub play_schedule-requires-clause-lines : goal.play_schedule-requires-clause-lines

@@ -1,5 +1,5 @@
-use Rattle.std.proofs.Common.{rules, subst, sym}
-use Rattle.rht_core.specs.Runs.{Core, IsAdmittedEvent, IsBuiltEvent}
+use Rattle.std.proofs.Common.{rules}
+use Rattle.rht_core.specs.Runs.{Core, IsAdmittedEvent}
 use Rattle.rht_core.proofs.Events.ReachedStates.{IsSound-reached, MayPut-reached, IsReached-more}
 use Rattle.rht_core.proofs.state.State.step.Goals as goal
 
@@ -11,10 +11,7 @@ perform-requires-clause-put g c = MayPut-reached g.row.M.Denot g.M.Mix.mix_of _ 
 
 pub invariant_of-self : goal.invariant_of-self
 invariant_of-self g c =
-    let kind = c.self.inside.env.config.kind in
-    let built = subst (λ (core : Core g.row.M.Denot). IsBuiltEvent core.env.config.kind c.args.event)
-    (sym c.self.view_is) c.requires in
-    let admitted : IsBuiltEvent kind c.args.event → IsAdmittedEvent kind c.args.event = search rules in
+    let admitted : IsAdmittedEvent c.args.event = search rules in
     let new = c.perform.new in
     let after : Core g.row.M.Denot = record {
       env = c.self.inside.env;
@@ -22,6 +19,6 @@ invariant_of-self g c =
       enrolled = new.enrolled;
       locals = new.locals.items;
     } in
-    IsReached-more g.row.M.Denot g.M.Mix.mix_of _ after c.args.event c.perform.result (admitted built)
+    IsReached-more g.row.M.Denot g.M.Mix.mix_of _ after c.args.event c.perform.result admitted
     c.perform.ensures
     c.self.invariant

@@ -6,7 +6,7 @@ use Rattle.rht_run.proofs.table.Table.all.Goals as goal
 
 pub call-requires-clause-may : goal.call-requires-clause-may
 call-requires-clause-may g c =
-    record { idle = c.requires.idle; admitted = c.word_of.ensures.within; built = tt; machine = _; machine_is = refl }
+    record { idle = c.requires.idle; admitted = c.word_of.ensures.within; machine = _; machine_is = refl }
 
 pub returns-clause-reply : goal.returns-clause-reply
 returns-clause-reply g c =

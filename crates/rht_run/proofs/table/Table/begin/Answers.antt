@@ -6,7 +6,7 @@ use Rattle.rht_run.proofs.table.Table.begin.Goals as goal
 pub perform-requires-clause-can : goal.perform-requires-clause-can
 perform-requires-clause-can g c =
     may_begin g.M.Mix.mix_of c.args.self.now g.K.Ride.riding c.args.seat.now (g.F.Frame.holding c.args.frame.now c.args.piece.now)
-    _ c.requires.before c.requires.begins c.requires.admitted c.requires.built
+    _ c.requires.before c.requires.begins c.requires.admitted
     (g.met.F.Frame.plans c.args.frame.now c.args.piece.now ∙ ap Some (sym c.planned-op.ensures))
 
 pub returns-clause-doing : goal.returns-clause-doing

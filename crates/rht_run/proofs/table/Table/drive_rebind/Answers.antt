@@ -1,4 +1,4 @@
-use Rattle.std.proofs.Common.{◌∙◌, sym, ap, subst, arith}
+use Rattle.std.proofs.Common.{◌∙◌, sym, ap, arith}
 use Rattle.std.specs.Prelude.{Option, Some}
 use Rattle.rht_words.specs.declared.geometry.Geometry.{Geometry}
 use Rattle.rht_words.specs.Ports.{word_of}
@@ -6,8 +6,7 @@ use Rattle.rht_arena.specs.NewNode.{new_node_new}
 use Rattle.rht_release.specs.declared.rebind.RebindAt.TheVariants.{Filling}
 use Rattle.rht_model.specs.declared.history.Call.{Call}
 use Rattle.rht_callers.specs.declared.local.Doing.{Doing}
-use Rattle.rht_core.specs.Locals.{machine_of, rebinding_of}
-use Rattle.rht_core.specs.Runs.{IsBuiltFor}
+use Rattle.rht_core.specs.Locals.{machine_of}
 use Rattle.rht_run.specs.Seeks.{rebind_at}
 use Rattle.rht_run.proofs.Rides.{before_few}
 use Rattle.rht_run.proofs.table.Table.drive_rebind.Goals as goal
@@ -19,14 +18,8 @@ begin_with_node-begun-requires-clause-begins g c =
     Some (rebind_at env c.args.number c.args.port c.args.owner c.args.new (Filling (new_node_new geometry (word_of c.args.port) c.args.new))) in
     ap (λ n. machine_of env n g.K.Ride.riding.batch g.K.Ride.riding.call) c.requires.number
     ∙ ap (λ (call : Call). machine_of env c.args.number g.K.Ride.riding.batch call) c.requires.call
-    ∙ ap (rebinding_of env c.args.number c.args.port c.args.owner c.args.new) c.requires.single
     ∙ ap filling (sym c.starts-starts.ensures)
 
 pub section-section-requires : goal.section-section-requires
 section-section-requires g c =
     omega (arith, c.requires.number, before_few g.M.Mix.mix_of c.args.self.now g.K.Ride.riding c.args.seat.now c.requires.before)
-
-pub begin_with_node-begun-requires-clause-built : goal.begin_with_node-begun-requires-clause-built
-begin_with_node-begun-requires-clause-built g c =
-    subst (λ (call : Call). IsBuiltFor c.args.self.now.env.config.kind call) (sym c.requires.call)
-    (λ listed. absurd (let same = sym c.requires.single ∙ listed in cc))

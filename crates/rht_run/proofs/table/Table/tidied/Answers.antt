@@ -8,7 +8,7 @@ use Rattle.rht_run.proofs.table.Table.tidied.Goals as goal
 
 pub finish-requires-clause-may : goal.finish-requires-clause-may
 finish-requires-clause-may g c =
-    MayBegin-made c.args.self.now.env c.args.pass.now.number Tidy c.args.pass.now.local c.requires.idle tt tt
+    MayBegin-made c.args.self.now.env c.args.pass.now.number Tidy c.args.pass.now.local c.requires.idle tt
     (own_batch g.M.Mix.mix_of c.args.self.now c.args.pass.now c.requires.pass c.requires.idle)
 
 pub finish-requires-clause-few : goal.finish-requires-clause-few

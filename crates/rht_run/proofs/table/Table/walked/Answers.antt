@@ -7,4 +7,4 @@ use Rattle.rht_run.proofs.table.Table.walked.Goals as goal
 pub start-requires-clause-may : goal.start-requires-clause-may
 start-requires-clause-may g c =
     MayBegin-made c.args.self.now.env c.args.pass.now.number (Walk c.args.from c.args.limit) c.args.pass.now.local c.requires.idle
-    (search rules) tt (own_batch g.M.Mix.mix_of c.args.self.now c.args.pass.now c.requires.pass c.requires.idle)
+    (search rules) (own_batch g.M.Mix.mix_of c.args.self.now c.args.pass.now c.requires.pass c.requires.idle)

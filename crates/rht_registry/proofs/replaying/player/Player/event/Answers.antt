@@ -29,5 +29,5 @@ returns-clause-can g c =
     let ready = c.ready.new.self in
     let after : Player g.row.M.Denot =
     record { state = c.step.new.self; next = ready.next; made = ready.made + 1; over = ready.over } in
-    CanPlay-stays c.args.commands.now ready after c.ready.ensures.can refl
+    CanPlay-stays ready after c.ready.ensures.can refl
     (ap (λ p. p.0.env) c.step.ensures ∙ event-env g.row.M.Denot g.M.Mix.mix_of ready.state (Step c.args.caller))

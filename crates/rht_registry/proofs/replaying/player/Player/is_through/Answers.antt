@@ -20,6 +20,6 @@ returns-clause-through g c =
 
 pub returns-clause-can : goal.returns-clause-can
 returns-clause-can g c =
-    CanPlay-stays c.args.commands.now c.args.self.now c.look.new.self c.requires.can
+    CanPlay-stays c.args.self.now c.look.new.self c.requires.can
     (ap length c.look.ensures.next ∙ length-set c.args.self.now.next.items c.args.caller c.look.result)
     (ap (λ (k : Core g.row.M.Denot). k.env) c.look.ensures.state)

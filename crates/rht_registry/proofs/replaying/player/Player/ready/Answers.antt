@@ -19,4 +19,4 @@ returns-in-Some-clause-can g c =
     let taken = c.take.new.self in
     let after : Player g.row.M.Denot =
     record { state = c.step.new.self; next = taken.next; made = taken.made; over = taken.over } in
-    CanPlay-stays c.args.commands.now taken after c.in-Some.ensures.can refl (ap (λ p. p.0.env) c.step.ensures)
+    CanPlay-stays taken after c.in-Some.ensures.can refl (ap (λ p. p.0.env) c.step.ensures)

@@ -4,7 +4,7 @@ use Rattle.std.specs.Vec.{with_item}
 use Rattle.std.proofs.lemmas.List.{length-set}
 use Rattle.std.proofs.lemmas.List.Elements.{All-from_recursion}
 use Rattle.rht_model.specs.declared.history.Call.{Call}
-use Rattle.rht_core.specs.Runs.{Core, IsBuiltFor}
+use Rattle.rht_core.specs.Runs.{Core}
 use Rattle.rht_core.specs.Serving.{calls_of}
 use Rattle.rht_registry.specs.declared.replaying.player.Player.{Player}
 use Rattle.rht_registry.proofs.NextCommands.{calls_of-own, calls_of-past}
@@ -24,7 +24,7 @@ returns-then-place-commands-clause-taken g c =
 
 pub returns-then-place-commands-clause-can : goal.returns-then-place-commands-clause-can
 returns-then-place-commands-clause-can g c =
-    CanPlay-stays c.args.commands.now c.args.self.now c.look-place.new.self c.requires.can
+    CanPlay-stays c.args.self.now c.look-place.new.self c.requires.can
     (ap length c.look-place.ensures.next ∙ length-set c.args.self.now.next.items c.args.caller c.look-place.result)
     (ap (λ (k : Core g.row.M.Denot). k.env) c.look-place.ensures.state)
 
@@ -52,14 +52,6 @@ returns-clause-taken g c =
           c.look-place.ensures.state c.look-place.ensures.made c.look-place.ensures.over,
     )
 
-pub returns-clause-built : goal.returns-clause-built
-returns-clause-built g c =
-    let commands = c.args.commands.now in
-    let kind = c.args.self.now.state.env.config.kind in
-    let within : c.look-place.result < length commands = c.if-place-commands.false in
-    All-from_recursion (λ (command : ℕ × Call). IsBuiltFor kind command.1) commands c.requires.can.built c.look-place.result
-    c.index-commands-place.result within
-
 pub returns-clause-can : goal.returns-clause-can
 returns-clause-can g c =
     let looked = c.look-place.new.self in
@@ -70,7 +62,7 @@ returns-clause-can g c =
       made = looked.made;
       over = looked.over;
     } in
-    CanPlay-stays c.args.commands.now c.args.self.now after c.requires.can
+    CanPlay-stays c.args.self.now after c.requires.can
     (length-set looked.next.items c.args.caller (place + 1) ∙ ap length c.look-place.ensures.next
     ∙ length-set c.args.self.now.next.items c.args.caller place)
     (ap (λ (k : Core g.row.M.Denot). k.env) c.look-place.ensures.state)
