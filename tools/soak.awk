@@ -105,6 +105,7 @@ files == 1 {
 }
 $1 == "port" {
   port = $2
+  sub(/:$/, "", port)
   if (!(port in named)) fault("port " port " is bound at last, and no call names it")
   if (keys && key_of(port) <= key_before) fault("the bound ports don't rise")
   key_before = key_of(port)
