@@ -20,8 +20,8 @@ mod writer;
 pub use cause::{Cause, at_line};
 pub use generator::generated;
 pub use reader::{
-    Lines, MOST_BYTES, Words, command_line, line_end, number_of, port_word, read, table_line,
-    too_long, word_at,
+    Lines, MOST_BYTES, Words, command_line, line_end, number_of, port_word, read, read_dealt,
+    table_line, too_long, word_at,
 };
 pub use script::{ReadError, Sched, Script, ScriptFault, TableLine};
 pub use writer::{
