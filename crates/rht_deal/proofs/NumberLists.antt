@@ -1,5 +1,5 @@
 -- Lists of numbers and what they weigh, and sums over the views of all passes.
-use Rattle.std.proofs.Common.{◌≡◌, ◌≢◌, ℕ, zero, suc, ◌+◌, ◌<◌, ◌≤◌, ◌⊎◌, Bool, true, false, List, [], ◌∷◌, ◌++◌, length, set, cond, refl, sym, ◌∙◌, ap, inl, inr, ⊎_elim, arith}
+use Rattle.std.proofs.Common.{◌≡◌, ◌≢◌, ℕ, zero, suc, ◌+◌, ◌<◌, ◌≤◌, ◌⊎◌, Bool, true, false, List, [], ◌∷◌, ◌++◌, length, set, refl, sym, ◌∙◌, ap, inl, inr, ⊎_elim, arith}
 use Rattle.std.specs.Prelude.{sum_by, nat_lt, ◌&&◌, ◌||◌}
 use Rattle.std.specs.List.{AllByRecursion, range_with_len}
 use Rattle.std.proofs.lemmas.Bool.{cases_Bool, lt-ltb, le-ltb, ltb-true, ltb-false}
@@ -79,14 +79,24 @@ module _ {V : Type 0} (f : V → ℕ) where
 
 -- ---- numbers by what they weigh
 
--- a number that isn't one of those from the first to the last weighs 1, any other nothing
+-- where each weighs 1 they weigh as much as there are
+pub weight-ones : (numbers : List ℕ) → weight (λ n. 1) numbers ≡ length numbers
+weight-ones [] = refl
+weight-ones (number ∷ numbers) = omega (arith, sum_by-cons (λ (n : ℕ). 1) number numbers, weight-ones numbers)
+
+-- what is so weighs 1, what isn't nothing
+abbrev mark : Bool → ℕ
+mark true = 1
+mark false = 0
+
+-- so does a number that isn't one of those from the first to the last
 abbrev outside : ℕ → ℕ → ℕ → ℕ
-outside first last number = cond (nat_lt number first || nat_lt last number) 1 0
+outside first last number = mark (nat_lt number first || nat_lt last number)
 
 is_within : (first last number : ℕ) → outside first last number ≡ 0 → (first ≤ number) × (number ≤ last)
 is_within first last number none = by_tests (nat_lt number first) (nat_lt last number) refl refl none
   where
-    by_tests : (below above : Bool) → nat_lt number first ≡ below → nat_lt last number ≡ above → cond (below || above) 1 0 ≡ 0
+    by_tests : (below above : Bool) → nat_lt number first ≡ below → nat_lt last number ≡ above → mark (below || above) ≡ 0
         → (first ≤ number) × (number ≤ last)
     by_tests true above low high none = absurd (omega (arith, none))
     by_tests false true low high none = absurd (omega (arith, none))

@@ -8,12 +8,13 @@ use Rattle.std.specs.List.{AllByRecursion, range_with_len}
 use Rattle.std.proofs.lemmas.List.Sums.{sum_by-cons, sum_by-append, sum_by_push}
 use mathlib.Core.Option.{some, some-ne-none}
 use lib.ListN.{get_elem?}
-use Rattle.crossbeam_queue.specs.Fifo.{Pushes, Pops, Forks, Merges, Learns}
+use Rattle.crossbeam_queue.specs.Fifo.{Pushes, Pops, Forks, Merges, Learns, Held}
 use Rattle.crossbeam_queue.proofs.Lists.{at_set, at_snoc}
 use Rattle.rht_words.proofs.EachElement.{AllByRecursion-append, AllByRecursion-push, AllByRecursion-weaker}
 use Rattle.rht_deal.specs.declared.numbers.Hand.{Hand}
-use Rattle.rht_deal.specs.Numbers.{hand, all_parts, numbers_to, weight, AreTogether, AreRising, AreAbove, IsHand, AreDealt, Pushed, Took, KnowsAll, sharing, shared, joined}
-use Rattle.rht_deal.proofs.NumberLists.{numbers_to-push, sum_by-set_at, sum_by-at, sum_by-two, sum_by-only, AllByRecursion-range}
+use Rattle.rht_deal.specs.Numbers.{hand, all_parts, numbers_to, weight, AreTogether, AreRising, AreAbove, IsHand, AreDealt, Pushed, Took, KnowsAll, HasAll, sharing, shared, joined}
+use Rattle.std.proofs.lemmas.List.FromFn.{length-range_with_len}
+use Rattle.rht_deal.proofs.NumberLists.{numbers_to-push, weight-ones, sum_by-set_at, sum_by-at, sum_by-two, sum_by-only, AllByRecursion-range}
 
 -- ---- views
 
@@ -248,3 +249,25 @@ learns pass v items views rule at all h =
     let only = sum_by-only (taken_weight h) views pass v at
     (λ other w apart there. ap (weight h) ((rule.hands other w there).idle (others_idle items views rule pass other v w at all apart there))) in
     ap (λ n. weight h (numbers_to n)) knows ∙ rule.together h ∙ ap (λ n. n + weight h items) only
+
+-- so where it pushes the next number there is room for it, if the queue has room for so many
+pub never_full : (cap number : ℕ) (v : Hand) → v.parts ≡ all_parts → v.pushed + 1 ≡ number → number ≤ cap → Held cap (KnowsAll v) → ⊥
+never_full cap number v all next room held =
+    let items : List ℕ = held.0 in
+    let knows = held.2 all (λ n. 1) in
+    let ones = weight-ones items in
+    let pushed = weight-ones (numbers_to v.pushed) in
+    let count = length-range_with_len 1 v.pushed in
+    let full = held.1 in
+    omega (arith, knows, ones, pushed, count, full, next, room)
+
+-- and a pass that found the queue empty with all parts has taken all numbers
+pub HasAll-empty : (v : Hand) → Held 0 (KnowsAll v) → HasAll v
+HasAll-empty v held all h =
+    let knows = held.2 all h in
+    let none : weight h held.0 ≡ 0 = nothing held.0 held.1 in
+    omega (arith, knows, none)
+  where
+    nothing : (items : List ℕ) → length items ≡ 0 → weight h items ≡ 0
+    nothing [] empty = refl
+    nothing (item ∷ items) empty = absurd (omega (arith, empty))

@@ -12,9 +12,9 @@ use Rattle.rht_deal.specs.declared.numbers.Hand.{Hand}
 abbrev pub hand : ℕ → ℕ → List ℕ → Hand
 hand parts pushed taken = record { parts = parts; pushed = pushed; taken = taken }
 
--- all parts: one for each worker that a table can have
+-- all parts: one for each worker that a table can have, and one for who pushes the numbers
 abbrev pub all_parts : ℕ
-all_parts = 16
+all_parts = 17
 
 -- the numbers of the commands, where they are so many
 abbrev pub numbers_to : ℕ → List ℕ

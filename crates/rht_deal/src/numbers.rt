@@ -119,8 +119,9 @@ fn push<R: Wait>(rt: &R, queue: &Numbers, pass: &mut NumberPass, number: u32)
     ensures queue { IsPassOf queue.now pass.new }
     ensures pass { view pass.new ≡ hand all_parts number (view pass.old).taken }
 {
-    if queue.push_as::<Pushing, R>(rt, pass, number).is_err() {
-        unreachable!();
+    match queue.push_as::<Pushing, R>(rt, pass, number) {
+        Ok(()) => {}
+        Err(_) => unreachable!(),
     }
 }
 
