@@ -1,5 +1,7 @@
 -- the rule of the queue through which commands are dealt, of numbers alone
 pub mod Numbers
+-- commands that were done: their numbers, who did them, and how they ended
+pub mod DoneCommands
 -- when a script was dealt rightly
 pub mod Dealing
 -- a worker, and what it has done so far

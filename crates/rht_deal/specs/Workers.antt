@@ -13,7 +13,7 @@ use Rattle.rht_script.specs.Dealt.{IsDealtScript}
 use Rattle.rht_deal.specs.declared.dealt.Done.{Done}
 use Rattle.rht_deal.specs.declared.numbers.Hand.{Hand}
 use Rattle.rht_deal.specs.declared.worker.Worker.{Worker}
-use Rattle.rht_deal.specs.Dealing.{ending_of, numbers_of, calls_at}
+use Rattle.rht_deal.specs.DoneCommands.{ending_of, numbers_of, calls_at}
 use Rattle.rht_deal.specs.Numbers.{hand, all_parts, numbers_to, weight, AreRising, joined}
 
 -- the script can be dealt on this table
@@ -109,15 +109,3 @@ passes_of {M} workers = map (λ (worker : Worker M). worker.pass) workers
 
 abbrev pub kept_of : {M : Type 0} → List (Worker M) → List (List Done)
 kept_of {M} workers = map (λ (worker : Worker M). worker.done.items) workers
-
--- ---- what they have done, put in order
-
--- what each of the workers has done, who are counted on from this number: its own commands, in rising order
-abbrev pub AreOwn : ℕ → List (List Done) → Type 0
-AreOwn worker [] = Unit {0}
-AreOwn worker (own ∷ others) =
-    AllByRecursion (λ (done : Done). done.worker ≡ worker) own × AreRising (numbers_of own) × AreOwn (worker + 1) others
-
--- together these are all numbers, each once
-abbrev pub AreEachOnce : ℕ → List (List Done) → Type 0
-AreEachOnce count kept = (h : ℕ → ℕ) → weight h (numbers_to count) ≡ sum_by (λ own. weight h (numbers_of own)) kept

@@ -4,13 +4,13 @@
 //! Stands on `numbers`, whose rule says that no number is lost or taken twice, on `worker`, and on
 //! `ordering`.
 
-ghost use Rattle.std.specs.Prelude.{◌≡◌, ◌+◌, ◌<◌, ◌≤◌, ℕ, IfOk, vec_len, length, slice_index_or};
+ghost use Rattle.std.specs.Prelude.{◌≡◌, ◌+◌, ◌<◌, ◌≤◌, IfOk, vec_len, length};
 ghost use Rattle.crossbeam_queue.specs.Passes.{view, IsPassOf};
 ghost use Rattle.rht_policy.specs.Mix.{mix_named};
 ghost use Rattle.rht_run.specs.Passes.{AreNew};
 ghost use Rattle.rht_script.specs.Dealt.{IsDealtScript};
 ghost use Rattle.rht_deal.specs.Dealing.{IsDealtBy};
-ghost use Rattle.rht_deal.specs.Numbers.{hand, all_parts, HasAll};
+ghost use Rattle.rht_deal.specs.Numbers.{hand, all_parts};
 ghost use Rattle.rht_deal.specs.Workers.{CanDeal, IsReady, HasWorked, AreWorking, HaveDoneAll, AreReady, HaveWorked, IsDealer, HasGathered, passes_of, kept_of};
 ghost use Rattle.rht_deal.specs.Ordering.{kept_items};
 
@@ -47,14 +47,7 @@ pub fn run_dealt<M: Mix + Send, R: Threads + Wait + Sync, G: Gate + Sync>(
     ensures { IfOk result (IsDealtBy M script.now) }
 {
     let (table, passes) = Table::<M>::open(alloc, script.config)?;
-    let (queue, mut dealer) = filled(rt, alloc, script.commands.len())?;
-    let deal = Deal {
-        table: &table,
-        queue: &queue,
-        script,
-        gate,
-    };
-    let workers = dealt_out(rt, alloc, &deal, passes, &mut dealer)?;
+    let workers = dealt_out(rt, alloc, &table, passes, script, gate)?;
     let (passes, kept) = parted(alloc, workers)?;
     let done = in_order(alloc, kept, script.commands.len())?;
     match Table::close(alloc, table, passes) {
@@ -63,26 +56,34 @@ pub fn run_dealt<M: Mix + Send, R: Threads + Wait + Sync, G: Gate + Sync>(
     }
 }
 
-/// All workers, once each command was done. The dealer's token is the one that has pushed the numbers.
+/// All workers, once each command was done. The dealer pushes the numbers, and takes in what the workers'
+/// tokens have taken.
 fn dealt_out<M: Mix + Send, R: Threads + Wait + Sync, G: Gate + Sync>(
     rt: &R,
     alloc: Global,
-    deal: &Deal<'_, M, G>,
+    table: &Table<M>,
     passes: Vec<Pass<M>>,
-    dealer: &mut NumberPass,
+    script: &Script,
+    gate: &G,
 ) -> Result<Vec<Worker<M>>, AllocError>
-    requires can { CanDeal deal.now.table.now deal.now.script.now }
-    requires passes { AreNew M.mix_of deal.now.table.now 0 passes.items }
-    requires count { vec_len passes ≡ deal.now.script.now.config.callers }
-    requires dealer { IsDealer deal.now.queue.now dealer.old (length deal.now.script.now.commands.items) }
-    ensures workers { IfOk result (λ workers. AreWorking M.mix_of deal.now.table.now deal.now.script.now 1 workers.items) }
+    requires can { CanDeal table.now script.now }
+    requires passes { AreNew M.mix_of table.now 0 passes.items }
+    requires count { vec_len passes ≡ script.now.config.callers }
+    ensures workers { IfOk result (λ workers. AreWorking M.mix_of table.now script.now 1 workers.items) }
     ensures count { IfOk result (λ workers. vec_len workers ≡ vec_len passes) }
-    ensures once { IfOk result (λ workers. HaveDoneAll (length deal.now.script.now.commands.items) workers.items) }
+    ensures once { IfOk result (λ workers. HaveDoneAll (length script.now.commands.items) workers.items) }
 {
-    let jobs = ready(alloc, deal, passes, dealer)?;
-    let left = all_work(rt, alloc, deal, jobs)?;
-    let mut workers = gathered(alloc, deal.queue, dealer, left)?;
-    workers[0].work(rt, alloc, deal, dealer)?;
+    let (queue, mut dealer) = filled(rt, alloc, script.commands.len())?;
+    let deal = Deal {
+        table,
+        queue: &queue,
+        script,
+        gate,
+    };
+    let jobs = ready(alloc, &deal, passes, &mut dealer)?;
+    let left = all_work(rt, alloc, &deal, jobs)?;
+    let mut workers = gathered(alloc, &queue, &mut dealer, left)?;
+    workers[0].work(rt, alloc, &deal, &mut dealer)?;
     Ok(workers)
 }
 
@@ -104,8 +105,8 @@ fn ready<M: Mix, G: Gate>(
         × ((view dealer.new).parts + vec_len jobs ≡ all_parts)) }
 {
     let mut jobs = Vec::with_capacity(alloc, passes.len())?;
-    for (number, pass) in passes.into_iter().enumerate() {
-        let worker = Worker::new(alloc, number, pass, deal.script.commands.len())?;
+    for pass in passes {
+        let worker = Worker::new(alloc, jobs.len(), pass, deal.script.commands.len())?;
         let numbers = share(deal.queue, dealer);
         jobs.push((worker, numbers))?;
     }

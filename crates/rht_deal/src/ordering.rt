@@ -2,10 +2,9 @@
 //! so the next one is always the first that one of them has left.
 
 ghost use Rattle.std.specs.Prelude.{◌≡◌, ◌+◌, ◌<◌, ◌^◌, ◌↔◌, ℕ, [], IfOk, IsTrue, slice_index_or, vec_len};
-ghost use Rattle.rht_deal.specs.Dealing.{numbers_of, done_by};
+ghost use Rattle.rht_deal.specs.DoneCommands.{numbers_of, done_by};
 ghost use Rattle.rht_deal.specs.Numbers.{numbers_to};
-ghost use Rattle.rht_deal.specs.Workers.{AreOwn, AreEachOnce};
-ghost use Rattle.rht_deal.specs.Ordering.{kept_items, BeginsWith, TakesOut};
+ghost use Rattle.rht_deal.specs.Ordering.{kept_items, BeginsWith, TakesOut, AreOwn, AreEachOnce};
 
 use crate::dealt::Done;
 use std::alloc::{AllocError, Global};
