@@ -2,3 +2,7 @@
 pub mod NumberLists
 -- each step keeps the rule of the queue
 pub mod NumberRule
+-- what all workers have done, put in order
+pub mod DoneOrder
+-- what follows for what was done, in the words of commands and workers
+pub mod DoneLaws

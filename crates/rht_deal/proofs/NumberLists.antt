@@ -85,7 +85,7 @@ weight-ones [] = refl
 weight-ones (number ∷ numbers) = omega (arith, sum_by-cons (λ (n : ℕ). 1) number numbers, weight-ones numbers)
 
 -- what is so weighs 1, what isn't nothing
-abbrev mark : Bool → ℕ
+abbrev pub mark : Bool → ℕ
 mark true = 1
 mark false = 0
 

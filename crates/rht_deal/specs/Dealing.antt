@@ -1,7 +1,6 @@
 -- When a script was dealt rightly. Each command was done once, by one of the workers; and what the workers were answered, and what is bound
 -- at the end, are those of a run, in which each worker has done the commands that it took, in the order of their numbers.
-use Rattle.std.specs.Prelude.{◌≡◌, ℕ, ◌≤◌, Bool, List, length}
-use Rattle.std.specs.List.{AllByRecursion}
+use Rattle.std.specs.Prelude.{ℕ, Bool, List}
 use Rattle.rht_words.specs.declared.config.Config.{Config}
 use Rattle.rht_policy.specs.Mix.{mix_named}
 use Rattle.rht_model.specs.declared.bindings.Closed.{Closed}
@@ -11,13 +10,7 @@ use Rattle.rht_run.specs.ServedRuns.{HasRun}
 use Rattle.rht_script.specs.declared.script.Script.{Script}
 use Rattle.rht_deal.specs.declared.dealt.Done.{Done}
 use Rattle.rht_deal.specs.declared.dealt.Dealt.{Dealt}
-use Rattle.rht_deal.specs.DoneCommands.{numbers_of, as_done, all_endings}
-use Rattle.rht_deal.specs.Numbers.{numbers_to}
-
--- Each command was done once: what was done has the numbers of the commands, in their order, each once. And a worker of the table did it.
-pub record AreAllDone (config : Config) (commands : List (ℕ × Call)) (dones : List Done) : Type 0 where
-  pub numbers : numbers_of dones ≡ numbers_to (length commands)
-  pub workers : AllByRecursion (λ (done : Done). (1 ≤ done.worker) × (done.worker ≤ config.callers)) dones
+use Rattle.rht_deal.specs.DoneCommands.{as_done, all_endings, AreAllDone}
 
 -- They were done, and a run serves the commands of each worker with these endings: it has done those that it took, in the order of their
 -- numbers. What was closed is what its last words stand for.

@@ -1,10 +1,12 @@
 -- Commands that were done: their numbers, who did them, and how they ended.
-use Rattle.std.specs.Prelude.{◌≡◌, ℕ, ◌-◌, ◌==◌, List, [], ◌∷◌, map, filter, slice_index_or}
-use Rattle.std.specs.List.{range_with_len}
+use Rattle.std.specs.Prelude.{◌≡◌, ℕ, ◌-◌, ◌≤◌, ◌==◌, List, [], ◌∷◌, length, map, filter, slice_index_or}
+use Rattle.std.specs.List.{AllByRecursion, range_with_len}
+use Rattle.rht_words.specs.declared.config.Config.{Config}
 use Rattle.rht_model.specs.declared.history.Call.{Call}
 use Rattle.rht_model.specs.declared.history.Call.TheVariants.{Count}
 use Rattle.rht_model.specs.Endings.{Ending, replied}
 use Rattle.rht_deal.specs.declared.dealt.Done.{Done}
+use Rattle.rht_deal.specs.Numbers.{numbers_to}
 
 -- how a command ended that was done
 abbrev pub ending_of : Done → Ending
@@ -35,3 +37,8 @@ as_done (done ∷ dones) (command ∷ commands) = (done.worker, command.1) ∷ a
 -- the calls of the commands with these numbers
 abbrev pub calls_at : List (ℕ × Call) → List ℕ → List Call
 calls_at commands numbers = map (λ number. (slice_index_or commands (number - 1) (0, Count)).1) numbers
+
+-- Each command was done once: what was done has the numbers of the commands, in their order, each once. And a worker of the table did it.
+pub record AreAllDone (config : Config) (commands : List (ℕ × Call)) (dones : List Done) : Type 0 where
+  pub numbers : numbers_of dones ≡ numbers_to (length commands)
+  pub workers : AllByRecursion (λ (done : Done). (1 ≤ done.worker) × (done.worker ≤ config.callers)) dones

@@ -4,8 +4,7 @@ use Rattle.std.specs.List.{AllByRecursion}
 use Rattle.rht_words.specs.declared.config.Config.{Config}
 use Rattle.rht_model.specs.declared.history.Call.{Call}
 use Rattle.rht_deal.specs.declared.dealt.Done.{Done}
-use Rattle.rht_deal.specs.Dealing.{AreAllDone}
-use Rattle.rht_deal.specs.DoneCommands.{numbers_of, done_by}
+use Rattle.rht_deal.specs.DoneCommands.{numbers_of, done_by, AreAllDone}
 use Rattle.rht_deal.specs.Numbers.{AreRising}
 
 -- each command was done exactly once
