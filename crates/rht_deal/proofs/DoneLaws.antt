@@ -32,18 +32,20 @@ range_within first (suc count) last most = (omega (arith, most), range_within (f
 -- each stands there once
 range_once : (first count n : ℕ) → first ≤ n → n < first + count → weight (here n) (range_with_len first count) ≡ 1
 range_once first zero n low high = absurd (omega (arith, low, high))
-range_once first (suc count) n low high = by_test (first == n) refl
+range_once first (suc count) n low high = by_test (first == n) refl (range_once (first + 1) count n)
   where
-    by_test : (same : Bool) → (first == n) ≡ same → weight (here n) (range_with_len first (suc count)) ≡ 1
-    by_test true is =
+    by_test : (same : Bool) → (first == n) ≡ same
+        → (first + 1 ≤ n → n < first + 1 + count → weight (here n) (range_with_len (first + 1) count) ≡ 1)
+        → weight (here n) (range_with_len first (suc count)) ≡ 1
+    by_test true is others =
         let one : here n first ≡ 1 = ap mark is in
         let same = eqb-true first n is in
         let none = none_above n (range_with_len (first + 1) count) (range_least (first + 1) count n (omega (arith, same))) in
         omega (arith, sum_by-cons (here n) first (range_with_len (first + 1) count), one, none)
-    by_test false is =
+    by_test false is others =
         let none : here n first ≡ 0 = ap mark is in
         let apart : first ≢ n = eqb-false first n is in
-        let behind = range_once (first + 1) count n (omega (arith, low, apart)) (omega (arith, high)) in
+        let behind = others (omega (arith, low, apart)) (omega (arith, high)) in
         omega (arith, sum_by-cons (here n) first (range_with_len (first + 1) count), none, behind)
 
 -- ---- what was done, by its numbers
@@ -88,19 +90,21 @@ no_other config commands dones all =
 module _ (mine : Done → Bool) where
   all_kept : (P : ℕ → Type 0) (dones : List Done) → AllByRecursion P (numbers_of dones) → AllByRecursion P (numbers_of (filter mine dones))
   all_kept P [] all = tt
-  all_kept P (done ∷ dones) all = by_test (mine done)
+  all_kept P (done ∷ dones) all = by_test (mine done) (all_kept P dones all.1)
     where
-      by_test : (b : Bool) → AllByRecursion P (numbers_of (cond b (done ∷ filter mine dones) (filter mine dones)))
-      by_test true = (all.0, all_kept P dones all.1)
-      by_test false = all_kept P dones all.1
+      by_test : (b : Bool) → AllByRecursion P (numbers_of (filter mine dones))
+          → AllByRecursion P (numbers_of (cond b (done ∷ filter mine dones) (filter mine dones)))
+      by_test true others = (all.0, others)
+      by_test false others = others
 
   rising_kept : (dones : List Done) → AreRising (numbers_of dones) → AreRising (numbers_of (filter mine dones))
   rising_kept [] rising = tt
-  rising_kept (done ∷ dones) rising = by_test (mine done)
+  rising_kept (done ∷ dones) rising = by_test (mine done) (rising_kept dones rising.1)
     where
-      by_test : (b : Bool) → AreRising (numbers_of (cond b (done ∷ filter mine dones) (filter mine dones)))
-      by_test true = (all_kept (λ number. done.number < number) dones rising.0, rising_kept dones rising.1)
-      by_test false = rising_kept dones rising.1
+      by_test : (b : Bool) → AreRising (numbers_of (filter mine dones))
+          → AreRising (numbers_of (cond b (done ∷ filter mine dones) (filter mine dones)))
+      by_test true others = (all_kept (λ number. done.number < number) dones rising.0, others)
+      by_test false others = others
 
 pub numbers_rise : NumbersRise
 numbers_rise config commands dones all worker =

@@ -29,13 +29,14 @@ here n number = mark (number == n)
 one_weighs : (f : List Done → ℕ) (kept : List (List Done)) → 0 < sum_by f kept
     → (place : ℕ) × (place < length kept) × (0 < f (get_or kept place []))
 one_weighs f [] some = absurd (omega (arith, some))
-one_weighs f (own ∷ kept) some = by_first (f own) refl
+one_weighs f (own ∷ kept) some = by_first (f own) refl (one_weighs f kept)
   where
-    by_first : (n : ℕ) → f own ≡ n → (place : ℕ) × (place < length (own ∷ kept)) × (0 < f (get_or (own ∷ kept) place []))
-    by_first zero is =
-        let behind = one_weighs f kept (omega (arith, some, is, sum_by-cons f own kept)) in
+    by_first : (n : ℕ) → f own ≡ n → (0 < sum_by f kept → (place : ℕ) × (place < length kept) × (0 < f (get_or kept place [])))
+        → (place : ℕ) × (place < length (own ∷ kept)) × (0 < f (get_or (own ∷ kept) place []))
+    by_first zero is others =
+        let behind = others (omega (arith, some, is, sum_by-cons f own kept)) in
         (suc behind.0, (let within = behind.1 in omega (arith, within)), behind.2)
-    by_first (suc n) is = (0, omega arith, omega (arith, is))
+    by_first (suc n) is others = (0, omega arith, omega (arith, is))
 
 -- numbers that are all greater than one don't weigh what it does
 pub none_above : (n : ℕ) (numbers : List ℕ) → AllByRecursion (λ number. n < number) numbers → weight (here n) numbers ≡ 0
@@ -112,7 +113,8 @@ pub InOrder-none : (count : ℕ) (all : List (List Done)) → AreOwn 1 all → A
 InOrder-none count all own once = record {
   numbers = refl;
   few = omega arith;
-  once = once;
+  once = λ h. (let all_left : count ≡ count - 0 = omega arith in
+      ap (λ n. weight h (range_with_len 1 n)) (sym all_left) ∙ once h);
   own = own;
   many = refl;
   whole = λ j below. refl;
