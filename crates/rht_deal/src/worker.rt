@@ -116,13 +116,24 @@ impl<M: Mix> Worker<M> {
             .table
             .serve(rt, &mut self.pass, command.1, deal.script.auto);
         let owners = owned(alloc, self.pass.owners())?;
+        self.keep(number, reply, owners)?;
+        deal.gate.after(self.number, number);
+        Ok(())
+    }
+
+    /// Keeps what the command of this number was answered.
+    fn keep(&mut self, number: u32, reply: Reply, owners: Owners) -> Result<(), AllocError>
+        ensures done { OnOk result (self.new.done.items
+            ≡ self.old.done.items ++ record { worker = self.old.number; number = number; reply = reply; owners = owners } ∷ []) }
+        ensures pass { self.new.pass ≡ self.old.pass }
+        ensures same { self.new.number ≡ self.old.number }
+    {
         self.done.push_back(Done {
             worker: self.number,
             number,
             reply,
             owners,
         })?;
-        deal.gate.after(self.number, number);
         Ok(())
     }
 }
