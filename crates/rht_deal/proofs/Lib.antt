@@ -4,5 +4,9 @@ pub mod NumberLists
 pub mod NumberRule
 -- what all workers have done, put in order
 pub mod DoneOrder
+-- a worker that does a command more
+pub mod ServedAnswers
+-- from what all workers have done to what was dealt
+pub mod WorkersDone
 -- what follows for what was done, in the words of commands and workers
 pub mod DoneLaws

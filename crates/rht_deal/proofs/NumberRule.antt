@@ -79,7 +79,7 @@ begins = record {
 
 -- ---- a push
 
-rising-push : (items : List ℕ) (number : ℕ) → AreRising items → AllByRecursion (λ item. item < number) items
+pub rising-push : (items : List ℕ) (number : ℕ) → AreRising items → AllByRecursion (λ item. item < number) items
     → AreRising (items ++ number ∷ [])
 rising-push [] number rising below = (tt, tt)
 rising-push (item ∷ items) number rising below =
