@@ -37,8 +37,8 @@ pub fn write_dealt<O: Sink>(out: &mut O, dealt: &Dealt) -> Result<(), Failed>
 fn write_all<O: Sink>(out: &mut O, dones: &[Done]) -> Result<(), Failed>
     ensures { Puts O.held O.faults out.old out.new result (flat_map done_line dones.now) }
 {
-    for done in dones {
-        write_done(out, done)?;
+    for i in 0..dones.len() {
+        write_done(out, &dones[i])?;
     }
     Ok(())
 }
