@@ -6,6 +6,8 @@ pub mod NumberRule
 pub mod DoneOrder
 -- a worker that does a command more
 pub mod ServedAnswers
+-- what the dealer's pass of the queue has taken in
+pub mod Gathering
 -- from what all workers have done to what was dealt
 pub mod WorkersDone
 -- what follows for what was done, in the words of commands and workers
