@@ -12,7 +12,7 @@ use Rattle.rht_deal.specs.declared.dealt.Done.{Done}
 use Rattle.rht_deal.specs.declared.numbers.Hand.{Hand}
 use Rattle.rht_deal.specs.declared.worker.Worker.{Worker}
 use Rattle.rht_deal.specs.DoneCommands.{numbers_of}
-use Rattle.rht_deal.specs.Numbers.{hand, numbers_to, weight, joined, HasAll}
+use Rattle.rht_deal.specs.Numbers.{hand, all_parts, numbers_to, weight, joined, HasAll}
 use Rattle.rht_deal.specs.Workers.{AreWorking, HasWorked, HaveWorked, HaveDoneAll, HasTaken, weight_of_all}
 
 module _ {M : Type 0} where
@@ -65,13 +65,14 @@ module _ {M : Type 0} where
   -- it has done these numbers more, and the others have done what they had
   pub HaveDoneAll-rest : (count : ℕ) (first after : Worker M) (others : List (Worker M)) (old new dealer : Hand)
       → HasJoined old new (first ∷ others) → old.taken ≡ [] → HasTaken first after new dealer → HasAll dealer
-      → dealer.parts ≡ new.parts → dealer.pushed ≡ count → (HasAll dealer → (h : ℕ → ℕ) → weight h (numbers_to count) ≡ weight h dealer.taken)
-      → HaveDoneAll count (after ∷ others)
-  HaveDoneAll-rest count first after others old new dealer joins none takes all parts pushed whole h =
+      → dealer.parts ≡ all_parts → dealer.pushed ≡ count → HaveDoneAll count (after ∷ others)
+  HaveDoneAll-rest count first after others old new dealer joins none takes all parts pushed h =
       let f : Worker M → ℕ = λ w. weight h (numbers_of w.done.items) in
+      let whole : weight h (numbers_to count) ≡ weight h dealer.taken =
+      ap (λ n. weight h (numbers_to n)) (sym pushed) ∙ all parts h in
       let before = joins.taken h in
       let empty : weight h old.taken ≡ 0 = ap (weight h) none in
       let done : f after ≡ f first + weight h takes.more = ap (weight h) takes.done ∙ sum_by-append h (numbers_of first.done.items) takes.more in
       let taken : weight h dealer.taken ≡ weight h new.taken + weight h takes.more =
       ap (λ (v : Hand). weight h v.taken) takes.taken ∙ sum_by-append h new.taken takes.more in
-      omega (arith, whole all h, before, empty, done, taken, sum_by-cons f first others, sum_by-cons f after others)
+      omega (arith, whole, before, empty, done, taken, sum_by-cons f first others, sum_by-cons f after others)

@@ -28,9 +28,6 @@ use std::sync::Wait;
 use std::thread;
 use std::thread::Threads;
 
-/// A worker with its token for the queue.
-type Job<M> = (Worker<M>, NumberPass);
-
 /// Opens a table, and has its workers do the commands of a dealt script: each has a pass and, where threads
 /// can be started, a thread, and does whichever command is next until none is left. The gate hears of each
 /// command before it and after it, with its worker and its number. What is left behind the threads is done
@@ -93,7 +90,7 @@ fn ready<M: Mix, G: Gate>(
     deal: &Deal<'_, M, G>,
     passes: Vec<Pass<M>>,
     dealer: &mut NumberPass,
-) -> Result<Vec<Job<M>>, AllocError>
+) -> Result<Vec<(Worker<M>, NumberPass)>, AllocError>
     requires can { CanDeal deal.now.table.now deal.now.script.now }
     requires passes { AreNew M.mix_of deal.now.table.now 0 passes.items }
     requires count { vec_len passes ≤ 16 }
@@ -118,8 +115,8 @@ fn all_work<M: Mix + Send, R: Threads + Wait + Sync, G: Gate + Sync>(
     rt: &R,
     alloc: Global,
     deal: &Deal<'_, M, G>,
-    jobs: Vec<Job<M>>,
-) -> Result<Vec<Result<Job<M>, AllocError>>, AllocError>
+    jobs: Vec<(Worker<M>, NumberPass)>,
+) -> Result<Vec<Result<(Worker<M>, NumberPass), AllocError>>, AllocError>
     requires can { CanDeal deal.now.table.now deal.now.script.now }
     requires jobs { AreReady M.mix_of deal.now.table.now deal.now.queue.now deal.now.script.now 1 jobs.items }
     ensures len { IfOk result (λ left. vec_len left ≡ vec_len jobs) }
@@ -144,7 +141,7 @@ fn work_of<M: Mix, R: Wait, G: Gate>(
     deal: &Deal<'_, M, G>,
     mut worker: Worker<M>,
     mut numbers: NumberPass,
-) -> Result<Job<M>, AllocError>
+) -> Result<(Worker<M>, NumberPass), AllocError>
     requires can { CanDeal deal.now.table.now deal.now.script.now }
     requires ready { IsReady M.mix_of deal.now.table.now deal.now.queue.now deal.now.script.now worker.number worker numbers }
     ensures { IfOk result (λ worked. HasWorked M.mix_of deal.now.table.now deal.now.queue.now deal.now.script.now worker.number
@@ -160,7 +157,7 @@ fn gathered<M: Mix>(
     alloc: Global,
     queue: &Numbers,
     dealer: &mut NumberPass,
-    left: Vec<Result<Job<M>, AllocError>>,
+    left: Vec<Result<(Worker<M>, NumberPass), AllocError>>,
 ) -> Result<Vec<Worker<M>>, AllocError>
     requires dealer { IsPassOf queue.now dealer.old }
     requires part { 0 < (view dealer.old).parts }

@@ -4,7 +4,6 @@
 ghost use Rattle.std.specs.Prelude.{◌≡◌, ◌+◌, ◌<◌, ◌≤◌, IfOk, OnOk, [], ◌∷◌, ◌++◌, length};
 ghost use Rattle.std.specs.List.{AllByRecursion};
 ghost use Rattle.crossbeam_queue.specs.Passes.{view, IsPassOf};
-ghost use Rattle.rht_run.specs.Passes.{IsNew};
 ghost use Rattle.rht_deal.specs.DoneCommands.{numbers_of};
 ghost use Rattle.rht_deal.specs.Numbers.{HasAll};
 ghost use Rattle.rht_deal.specs.Workers.{CanDeal, IsWorking, AreAmong, HasTaken};
