@@ -634,7 +634,11 @@ fn a_failing_err_changes_no_status(rt: HostRuntime) -> Result<(), Fail> {
 fn where_nothing_outside_can_fail(rt: HostRuntime) -> Result<(), Fail> {
     let cases: [(&[&str], &str, u8); 15] = [
         (&["run"], SCRIPT, 0),
-        (&["deal"], "table single workers 2\nany find 80\nany bind 80 1\n", 0),
+        (
+            &["deal"],
+            "table single workers 2\nany find 80\nany bind 80 1\n",
+            0,
+        ),
         (&["deal"], SCRIPT, 2),
         (&["deal", "7"], SCRIPT, 1),
         (&["check"], SCRIPT, 2),

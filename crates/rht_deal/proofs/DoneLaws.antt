@@ -55,8 +55,13 @@ count_by-weight : (n : ℕ) (dones : List Done) → count_by (λ (done : Done). 
 count_by-weight n [] = refl
 count_by-weight n (done ∷ dones) =
     let one : (b : Bool) → (let m : ℕ = cond b 1 0 in m) ≡ mark b = λ b. as_mark b in
-    omega (arith, sum_by-cons (λ (d : Done). cond (d.number == n) 1 0) done dones, sum_by-cons (here n) done.number (numbers_of dones),
-    one (done.number == n), count_by-weight n dones)
+    omega (
+      arith,
+      sum_by-cons (λ (d : Done). cond (d.number == n) 1 0) done dones,
+      sum_by-cons (here n) done.number (numbers_of dones),
+      one (done.number == n),
+      count_by-weight n dones,
+    )
   where
     as_mark : (b : Bool) → (let m : ℕ = cond b 1 0 in m) ≡ mark b
     as_mark true = refl

@@ -49,8 +49,13 @@ module _ {M : Type 0} where
               let behind = rest.taken h in
               let its_taken : weight h (view job.1).taken ≡ weight h (numbers_of job.0.done.items) =
               ap (λ (v : Hand). weight h v.taken) one.hand_is in
-              omega (arith, behind, its_taken, sum_by-append h old.taken (view job.1).taken,
-              sum_by-cons (λ (w : Worker M). weight h (numbers_of w.done.items)) job.0 (workers_of jobs));
+              omega (
+                arith,
+                behind,
+                its_taken,
+                sum_by-append h old.taken (view job.1).taken,
+                sum_by-cons (λ (w : Worker M). weight h (numbers_of w.done.items)) job.0 (workers_of jobs),
+              );
         }
 
     -- and the workers are in order of their numbers

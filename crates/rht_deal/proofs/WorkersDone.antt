@@ -107,8 +107,12 @@ module _ {M : Type 0} (mix : ℕ → ℕ → ℕ → ℕ) (t : Table M) (script 
           → sum_by (λ (w : Worker M). weight h (numbers_of w.done.items)) ws ≡ sum_by (λ own. weight h (numbers_of own)) (kept_of ws)
       by_workers [] = refl
       by_workers (w ∷ ws) =
-          omega (arith, sum_by-cons (λ (v : Worker M). weight h (numbers_of v.done.items)) w ws,
-          sum_by-cons (λ own. weight h (numbers_of own)) w.done.items (kept_of ws), by_workers ws)
+          omega (
+            arith,
+            sum_by-cons (λ (v : Worker M). weight h (numbers_of v.done.items)) w ws,
+            sum_by-cons (λ own. weight h (numbers_of own)) w.done.items (kept_of ws),
+            by_workers ws,
+          )
 
   -- So all passes have served the commands, each as its worker's, with the endings that are kept.
   pub HaveServedAll-done : (workers : List (Worker M)) (dones : List Done) → t.env.config ≡ script.config

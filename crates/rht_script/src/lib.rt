@@ -25,6 +25,6 @@ pub use reader::{
 };
 pub use script::{ReadError, Sched, Script, ScriptFault, TableLine};
 pub use writer::{
-    write_closed, write_fault, write_number, write_numbered, write_open, write_operation, write_port,
-    write_ports, write_reply, write_run, write_size, write_summary,
+    write_closed, write_fault, write_number, write_numbered, write_open, write_operation,
+    write_port, write_ports, write_reply, write_run, write_size, write_summary,
 };

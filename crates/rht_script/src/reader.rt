@@ -33,9 +33,9 @@ use crate::script::{
     TableLine, is_dealt_call, worker_limits,
 };
 use names::{
-    ALL, ANY, AUTO, BIND, COUNT, FIND, FINISH, FORM, HASH, HINT, LISTED, LOW, MANUAL, MAX, MIN, MIX,
-    NODES, OFF, ON, PAGES, REBIND, RELEASE, REWALKS, SEED, SHRINK, SINGLE, SKIP, STEP, TABLE, TIDY,
-    WALK, WORK, WORKERS,
+    ALL, ANY, AUTO, BIND, COUNT, FIND, FINISH, FORM, HASH, HINT, LISTED, LOW, MANUAL, MAX, MIN,
+    MIX, NODES, OFF, ON, PAGES, REBIND, RELEASE, REWALKS, SEED, SHRINK, SINGLE, SKIP, STEP, TABLE,
+    TIDY, WALK, WORK, WORKERS,
 };
 use numbers::{OWNER, number_within};
 use rht_model::Call;
@@ -104,7 +104,7 @@ fn line_feeds(bytes: &[u8]) -> u32
 fn first_table(below: Below, lines: &mut Lines) -> Result<TableLine, ScriptFault>
     ensures { MatchResult result
         (λ table. script_by (line_as below) lines.old.number lines.old.lines
-            ≡ below_by (line_as below) table lines.new.number lines.new.lines)
+        ≡ below_by (line_as below) table lines.new.number lines.new.lines)
         (λ fault. script_by (line_as below) lines.old.number lines.old.lines ≡ Err fault) }
 {
     while let Some(next) = lines.next() {

@@ -49,13 +49,19 @@ fn finds_the_first_fault(rt: HostRuntime) {
             line: *line,
             cause: *cause,
         }));
-        assert_same(&rt, &read_dealt(rt.alloc(), text.as_bytes()).err(), &fault, text);
+        assert_same(
+            &rt,
+            &read_dealt(rt.alloc(), text.as_bytes()).err(),
+            &fault,
+            text,
+        );
     }
 }
 
 #[test]
 fn reads_what_any_worker_may_do(rt: HostRuntime) -> Result<(), Fail> {
-    let text = "# six commands\ntable listed workers 3 form 2\nany bind 80 1\n\nany find 2.80\nany all 80\n any release 80 1\nany rebind 80 1 2\nany count";
+    let text =
+        "# six commands\ntable listed workers 3 form 2\nany bind 80 1\n\nany find 2.80\nany all 80\n any release 80 1\nany rebind 80 1 2\nany count";
     let script = read_dealt(rt.alloc(), text.as_bytes())?;
     let port = Port::plain(80);
     let want = [
@@ -67,7 +73,12 @@ fn reads_what_any_worker_may_do(rt: HostRuntime) -> Result<(), Fail> {
                 once: false,
             },
         ),
-        (0, Call::Find { port: Port { net: 2, number: 80 } }),
+        (
+            0,
+            Call::Find {
+                port: Port { net: 2, number: 80 },
+            },
+        ),
         (0, Call::All { port }),
         (0, Call::Release { port, owner: 1 }),
         (
@@ -80,7 +91,12 @@ fn reads_what_any_worker_may_do(rt: HostRuntime) -> Result<(), Fail> {
         ),
         (0, Call::Count),
     ];
-    assert_same(&rt, &script.commands.as_slice(), &want.as_slice(), "commands");
+    assert_same(
+        &rt,
+        &script.commands.as_slice(),
+        &want.as_slice(),
+        "commands",
+    );
     assert!(rt; script.schedule.is_empty());
     assert!(rt; script.config.callers == 3 && script.form == 2 && script.auto);
     assert!(rt; script.is_dealt() && !script.is_sound());

@@ -72,7 +72,12 @@ fn a_queue_may_be_empty_from_the_first(rt: HostRuntime) -> Result<(), Fail> {
     let none = deal(&rt, rt.alloc(), "table single workers 4\n", &NoGate)?;
     assert_numbered(&rt, &none, 0, 4);
     assert_same(&rt, (none.closed.size, none.closed.keys), (64, 0));
-    let one = deal(&rt, rt.alloc(), "table single workers 4\nany find 80\n", &NoGate)?;
+    let one = deal(
+        &rt,
+        rt.alloc(),
+        "table single workers 4\nany find 80\n",
+        &NoGate,
+    )?;
     assert_numbered(&rt, &one, 1, 4);
     assert_all(&rt, &one, Reply::Missing);
     Ok(())

@@ -21,7 +21,13 @@ fn scripts_are_dealt(rt: HostRuntime) -> Result<(), Fail> {
             "1 1: bound\n2 1: bound\n3 1: list 2 1\n4 1: rebound\n5 1: released\n6 1: count 1\nport 3.80: 9\nsize 64 keys 1\n",
             "",
         ),
-        (&["deal"], "table single workers 16\n", 0, "size 64 keys 0\n", ""),
+        (
+            &["deal"],
+            "table single workers 16\n",
+            0,
+            "size 64 keys 0\n",
+            "",
+        ),
         // A worker's number, a command that can't be dealt, and a line of a schedule.
         (
             &["deal"],
