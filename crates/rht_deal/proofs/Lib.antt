@@ -2,6 +2,8 @@
 pub mod NumberLists
 -- each step keeps the rule of the queue
 pub mod NumberRule
+-- taking out the first command that somebody has left
+pub mod TakenOut
 -- what all workers have done, put in order
 pub mod DoneOrder
 -- a worker that does a command more
