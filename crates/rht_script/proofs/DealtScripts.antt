@@ -1,6 +1,6 @@
 -- A dealt script that is read can be run: its config is settled, and each command is nobody's yet, has numbers that can be said, and is one
 -- that any worker may do. Its lines say no schedule.
-use Rattle.std.proofs.Common.{◌≡◌, ℕ, ◌≤◌, ◌==◌, ◌&&◌, Bool, true, false, cond, Ok, Err, List, [], ◌∷◌, codes, refl, arith}
+use Rattle.std.proofs.Common.{◌≡◌, ℕ, ◌≤◌, ◌==◌, ◌&&◌, Bool, true, false, cond, Result, Ok, Err, List, [], ◌∷◌, codes, refl, arith}
 use Rattle.std.specs.Prelude.{IfOk}
 use Rattle.std.specs.List.{AllByRecursion}
 use Rattle.std.proofs.lemmas.Bool.{eq-eqb, and_from}
@@ -50,8 +50,12 @@ module _ (table : TableLine) where
   abbrev Holds : ScriptLine → Type 0
   Holds = HoldsOfLine (IsForAny table.form table.config) (IsNoLine table.config)
 
+  -- the line of a call, by whether any worker may do it
+  abbrev line_if : Bool → Call → Result ScriptLine Cause
+  line_if dealt call = cond dealt (Ok (Command (nobody, call))) (Err UnknownWord)
+
   by_test : (call : Call) (dealt : Bool) → is_dealt_call call ≡ dealt → IsSayableCall table.form table.config call
-      → IfOk (cond dealt (Ok {E = Cause} (Command (nobody, call))) (Err UnknownWord)) Holds
+      → IfOk (line_if dealt call) Holds
   by_test call true is sayable = (refl, sayable, is)
   by_test call false is sayable = tt
 
