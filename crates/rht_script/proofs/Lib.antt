@@ -26,6 +26,8 @@ pub mod PortTexts
 pub mod PlainScripts
 -- whatever is read can be said
 pub mod SayableScripts
+-- a dealt script that is read can be run
+pub mod DealtScripts
 -- the script of a number can be said, and what it has
 pub mod GeneratedCommands
 -- inputs, and what the definitions give for them

@@ -63,6 +63,10 @@ abbrev pub reply_line : ℕ → Reply → List ℕ → List (Port × ℕ) → Bo
 reply_line worker reply owners pairs kicks =
     decimal worker ++ codes ": " ++ reply_text reply owners pairs kicks ++ codes "\n"
 
+-- the reply line of a command that has a number, which comes before its worker's; a kick isn't shown
+abbrev pub numbered_line : ℕ → ℕ → Reply → List ℕ → List ℕ
+numbered_line number worker reply owners = decimal number ++ codes " " ++ reply_line worker reply owners [] false
+
 -- the line of a bound port: its owners, the first one first
 abbrev pub port_line : Port × List ℕ → List ℕ
 port_line pair = codes "port " ++ port_text pair.0 ++ codes ":" ++ owners_text pair.1 ++ codes "\n"

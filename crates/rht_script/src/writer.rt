@@ -7,7 +7,7 @@ ghost use Rattle.std.specs.Prelude.{◌≡◌, ◌≤◌, ◌+◌, ◌++◌, len
 ghost use Rattle.std.specs.List.{enumerate_from};
 ghost use Rattle.rht_io.specs.Told.{Puts};
 ghost use Rattle.rht_script.specs.PortWords.{port_text};
-ghost use Rattle.rht_script.specs.Text.{pair_text, owners_text, walk_end, reply_text, reply_line, port_line, last_line, closed_text, worker_text, ending_line, run_text, cause_text, fault_line};
+ghost use Rattle.rht_script.specs.Text.{pair_text, owners_text, walk_end, reply_text, reply_line, numbered_line, port_line, last_line, closed_text, worker_text, ending_line, run_text, cause_text, fault_line};
 ghost use Rattle.rht_script.specs.Writing.{Adds};
 
 mod buffer;
@@ -41,6 +41,24 @@ pub fn write_reply<O: Sink>(
 {
     let mut text = Writer::new(out);
     add_reply(&mut text, worker.into(), reply, owners, pairs, kicks)?;
+    text.put()
+}
+
+/// Writes the reply line of a command that has a number: the number, and then the line of its worker,
+/// with the list of owners that comes beside the reply. A kick isn't shown.
+pub fn write_numbered<O: Sink>(
+    out: &mut O,
+    number: u32,
+    worker: u32,
+    reply: Reply,
+    owners: &[u32],
+) -> Result<(), Failed>
+    ensures { Puts O.held O.faults out.old out.new result (numbered_line number worker reply owners.now) }
+{
+    let mut text = Writer::new(out);
+    text.add_number(number.into())?;
+    text.add(b" ")?;
+    add_reply(&mut text, worker.into(), reply, owners, &[], false)?;
     text.put()
 }
 

@@ -1,0 +1,35 @@
+-- What is printed of a script that was dealt is what the form `deal` prints.
+use Rattle.std.proofs.Common.{◌≡◌, ℕ, List, Option, refl, sym, subst}
+use Rattle.rht_words.specs.declared.config.Hash.{Hash}
+use Rattle.rht_policy.specs.Mix.{mix_named}
+use Rattle.rht_model.specs.declared.bindings.Closed.{Closed}
+use Rattle.rht_run.specs.ServedRuns.{tag_of}
+use Rattle.rht_script.specs.declared.script.Script.{Script}
+use Rattle.rht_script.specs.Grammar.{Said}
+use Rattle.rht_deal.specs.declared.dealt.Done.{Done}
+use Rattle.rht_deal.specs.declared.dealt.Dealt.{Dealt}
+use Rattle.rht_deal.specs.Dealing.{as_done, all_endings, IsDealtBy, IsDealing}
+use Rattle.rht_deal.specs.Text.{dealt_text}
+use Rattle.rht_cli.specs.declared.form.Form.TheVariants.{Deal}
+use Rattle.rht_cli.specs.Input.{IsDealRead}
+use Rattle.rht_cli.specs.Forms.{Prints}
+use Rattle.rht_cli.proofs.RunTexts.{HasRun-hash}
+
+-- what was dealt by the hash that the config names was dealt rightly, and all that follows for its run is so
+pub IsDealing-hash : (hash : Hash) (script : Script) (dealt : Dealt) → script.config.hash ≡ hash → IsDealtBy (tag_of hash) script dealt
+    → IsDealing script.config script.auto script.commands.items dealt.done.items dealt.closed
+IsDealing-hash hash script dealt is dealing = record {
+  done = dealing.done;
+  run = HasRun-hash hash script.config script.auto (as_done dealt.done.items script.commands.items)
+      (all_endings script.config.callers dealt.done.items) dealt.closed is dealing.served;
+}
+
+pub Prints-dealt : (left left_after : Option (List ℕ)) (said : Said) (dones : List Done) (closed : Closed)
+    → IsDealRead left left_after said → IsDealing said.config said.auto said.commands dones closed
+    → Prints Deal left left_after (dealt_text dones closed)
+unfolding Prints
+Prints-dealt left left_after said dones closed read dealing = record {
+  said = said;
+  read = read;
+  is_text = record { dones = dones; closed = closed; dealing = dealing; written = refl };
+}

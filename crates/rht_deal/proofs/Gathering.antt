@@ -1,0 +1,83 @@
+-- The dealer's pass of the queue, once it has taken in those of all workers: it has all parts again, and what it has taken weighs what the
+-- workers have done. So where it finds the queue empty at last, each number was done once.
+use Rattle.std.proofs.Common.{◌≡◌, ℕ, zero, suc, ◌+◌, List, [], ◌∷◌, ◌++◌, length, map, refl, sym, ◌∙◌, ap, subst, arith}
+use Rattle.std.specs.Prelude.{fold, sum_by, Option, Result, Ok, IfOk}
+use Rattle.std.proofs.lemmas.List.Sums.{sum_by-cons, sum_by-append}
+use Rattle.crossbeam_queue.specs.declared.array_queue.Doing.{Doing}
+use Rattle.crossbeam_queue.specs.declared.array_queue.Slotted.{Slotted}
+use Rattle.crossbeam_queue.specs.Passes.{Pass, view}
+use Rattle.rht_run.specs.declared.table.Table.{Table}
+use Rattle.rht_script.specs.declared.script.Script.{Script}
+use Rattle.rht_deal.specs.declared.dealt.Done.{Done}
+use Rattle.rht_deal.specs.declared.numbers.Hand.{Hand}
+use Rattle.rht_deal.specs.declared.worker.Worker.{Worker}
+use Rattle.rht_deal.specs.DoneCommands.{numbers_of}
+use Rattle.rht_deal.specs.Numbers.{hand, all_parts, numbers_to, weight, joined, HasAll}
+use Rattle.rht_deal.specs.Workers.{AreWorking, HasWorked, HaveWorked, HaveDoneAll, HasTaken, weight_of_all}
+
+module _ {M : Type 0} where
+  abbrev Job : Type 0
+  Job = Worker M × Pass ℕ Hand
+
+  -- a hand that has taken in those of these jobs
+  abbrev after_joins : Hand → List Job → Hand
+  after_joins old jobs = fold (λ v (job : Job). joined v (view job.1)) old jobs
+
+  abbrev workers_of : List Job → List (Worker M)
+  workers_of jobs = map (λ (job : Job). job.0) jobs
+
+  -- it has their parts and what they have taken
+  record HasJoined (old new : Hand) (workers : List (Worker M)) : Type 0 where
+    pub parts : new.parts ≡ old.parts + length workers
+    pub pushed : new.pushed ≡ old.pushed
+    pub taken : (h : ℕ → ℕ) → weight h new.taken ≡ weight h old.taken + weight_of_all h workers
+
+  module _ {Q A E : Type 0} (mix : ℕ → ℕ → ℕ → ℕ) (t : Table M) (queue : Slotted (Option ℕ) (Doing ℕ Hand) Q A) (script : Script) where
+    -- By induction over the workers.
+    pub HasJoined-worked : (number : ℕ) (jobs : List Job) (old : Hand)
+        → HaveWorked {E = E} mix t queue script number (map Ok jobs) → HasJoined old (after_joins old jobs) (workers_of jobs)
+    HasJoined-worked number [] old worked = record { parts = omega arith; pushed = refl; taken = λ h. omega arith }
+    HasJoined-worked number (job ∷ jobs) old worked =
+        let one = worked.0 in
+        let next = joined old (view job.1) in
+        let rest = HasJoined-worked (number + 1) jobs next worked.1 in
+        let its_parts : (view job.1).parts ≡ 1 = ap (λ (v : Hand). v.parts) one.hand_is in
+        record {
+          parts = (let parts = rest.parts in omega (arith, parts, its_parts));
+          pushed = rest.pushed;
+          taken = λ h.
+              let behind = rest.taken h in
+              let its_taken : weight h (view job.1).taken ≡ weight h (numbers_of job.0.done.items) =
+              ap (λ (v : Hand). weight h v.taken) one.hand_is in
+              omega (
+                arith,
+                behind,
+                its_taken,
+                sum_by-append h old.taken (view job.1).taken,
+                sum_by-cons (λ (w : Worker M). weight h (numbers_of w.done.items)) job.0 (workers_of jobs),
+              );
+        }
+
+    -- and the workers are in order of their numbers
+    pub AreWorking-worked : (number : ℕ) (jobs : List Job) → HaveWorked {E = E} mix t queue script number (map Ok jobs)
+        → AreWorking mix t script number (workers_of jobs)
+    AreWorking-worked number [] worked = tt
+    AreWorking-worked number (job ∷ jobs) worked =
+        (worked.0.working, worked.0.number_is, AreWorking-worked (number + 1) jobs worked.1)
+
+  -- ---- the rest, which the first worker does
+
+  -- it has done these numbers more, and the others have done what they had
+  pub HaveDoneAll-rest : (count : ℕ) (first after : Worker M) (others : List (Worker M)) (old new dealer : Hand)
+      → HasJoined old new (first ∷ others) → old.taken ≡ [] → HasTaken first after new dealer → HasAll dealer
+      → dealer.parts ≡ all_parts → dealer.pushed ≡ count → HaveDoneAll count (after ∷ others)
+  HaveDoneAll-rest count first after others old new dealer joins none takes all parts pushed h =
+      let f : Worker M → ℕ = λ w. weight h (numbers_of w.done.items) in
+      let whole : weight h (numbers_to count) ≡ weight h dealer.taken =
+      ap (λ n. weight h (numbers_to n)) (sym pushed) ∙ all parts h in
+      let before = joins.taken h in
+      let empty : weight h old.taken ≡ 0 = ap (weight h) none in
+      let done : f after ≡ f first + weight h takes.more = ap (weight h) takes.done ∙ sum_by-append h (numbers_of first.done.items) takes.more in
+      let taken : weight h dealer.taken ≡ weight h new.taken + weight h takes.more =
+      ap (λ (v : Hand). weight h v.taken) takes.taken ∙ sum_by-append h new.taken takes.more in
+      omega (arith, whole, before, empty, done, taken, sum_by-cons f first others, sum_by-cons f after others)
