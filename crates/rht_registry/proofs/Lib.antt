@@ -2,7 +2,7 @@
 pub mod ServedCalls
 -- the commands of a sound script are its workers', and for a table of its kind
 pub mod SoundCommands
--- what all workers leave, and what it is once the table is closed
+-- what the workers leave, place by place
 pub mod ClosedOutcomes
 -- where a worker's next command is, and what is left
 pub mod NextCommands

@@ -1,38 +1,20 @@
 -- How a worker gets on: the calls that a command has added to its pass are served behind the others, and a command of another worker
 -- changes nothing.
-use Rattle.std.proofs.Common.{◌≡◌, ◌≢◌, ℕ, ◌+◌, ◌<◌, ◌≤◌, Bool, true, false, List, [], ◌∷◌, ◌++◌, length, take, get_or, inl, refl, sym, ◌∙◌, ap, subst, append_assoc, cond, arith}
+use Rattle.std.proofs.Common.{◌≡◌, ◌≢◌, ℕ, ◌+◌, ◌<◌, ◌≤◌, Bool, true, false, List, [], ◌∷◌, ◌++◌, length, take, get_or, refl, sym, ◌∙◌, ap, subst, cond}
 use Rattle.std.specs.Prelude.{◌==◌}
 use Rattle.std.proofs.lemmas.Bool.{eq-eqb, ne_eqb}
 use Rattle.std.proofs.lemmas.List.{append-nil, take_all, take_more}
 use Rattle.rht_model.specs.declared.history.Call.{Call}
 use Rattle.rht_model.specs.declared.history.Reply.{Reply}
-use Rattle.rht_model.specs.declared.finished.Finished.{Finished}
 use Rattle.rht_model.specs.Endings.{Ending, replied}
-use Rattle.rht_core.specs.declared.book.Book.{Book}
-use Rattle.rht_core.specs.Locals.{is_idle}
-use Rattle.rht_core.specs.Serving.{AreForCommand, Serves, calls_of}
+use Rattle.rht_core.specs.Serving.{calls_of}
 use Rattle.rht_run.specs.declared.table.Table.{Table}
 use Rattle.rht_run.specs.declared.pass.Pass.{Pass}
-use Rattle.rht_run.specs.Rule.{In, held_at}
-use Rattle.rht_run.specs.Passes.{IsNew, book_of, seen_by}
+use Rattle.rht_run.specs.Passes.{IsNew}
 use Rattle.rht_run.specs.Served.{HasServed}
+use Rattle.rht_run.specs.Workers.{HasServedCalls}
+use Rattle.rht_run.proofs.ServedWorkers.{HasServedCalls-new, HasServedCalls-more}
 use Rattle.rht_registry.specs.Outcomes.{HasServedWorker}
-
--- one command more, behind the others, with its calls
-pub Serves-push : (auto : Bool) (calls : List Call) (endings : List Ending) (done : List Finished) (call : Call) (ending : Ending)
-    (more : List Finished) → AreForCommand auto call ending more → Serves auto calls endings done
-    → Serves auto (calls ++ call ∷ []) (endings ++ ending ∷ []) (done ++ more)
-Serves-push auto [] [] done call ending more for serves =
-    rw serves (record { first = more; rest = []; whole = sym (append-nil more); first_is = for; rest_is = refl })
-Serves-push auto [] (e ∷ endings) done call ending more for serves = absurd serves
-Serves-push auto (own ∷ calls) [] done call ending more for serves = absurd serves
-Serves-push auto (own ∷ calls) (e ∷ endings) done call ending more for serves = record {
-  first = serves.first;
-  rest = serves.rest ++ more;
-  whole = ap (λ l. l ++ more) serves.whole ∙ append_assoc serves.first serves.rest more;
-  first_is = serves.first_is;
-  rest_is = Serves-push auto calls endings serves.rest call ending more for serves.rest_is;
-}
 
 -- ---- the calls of a worker
 
@@ -65,17 +47,6 @@ calls_of-other worker commands command other =
     ∙ ap (λ own. calls_of worker commands ++ cond own (command.1 ∷ []) []) (ne_eqb command.0 worker other)
     ∙ append-nil (calls_of worker commands)
 
--- a new pass has the number of a caller
-pub new-below : {M : Type 0} (mix : ℕ → ℕ → ℕ → ℕ) (t : Table M) (number : ℕ) (pass : Pass M) → IsNew mix t number pass → number ≤ 16
-new-below mix t number pass new =
-    let view = pass.seat.me.0 in
-    let held = held_at pass.number (seen_by pass) in
-    let shows = new.pass.in_run.shows held (subst (In held) (sym new.pass.held) (inl refl)) in
-    let below : pass.number < view.env.geometry.callers = shows.below in
-    let most : view.env.geometry.callers ≤ 16 = view.env.geometry.within.callers_within.1 in
-    let same : pass.number ≡ number = new.number in
-    omega (arith, below, most, same)
-
 module _ {M : Type 0} (mix : ℕ → ℕ → ℕ → ℕ) (t : Table M) (auto : Bool) where
   -- ---- one command more
 
@@ -86,19 +57,9 @@ module _ {M : Type 0} (mix : ℕ → ℕ → ℕ → ℕ) (t : Table M) (auto : 
       → HasServedWorker mix t auto (commands ++ (number + 1, call) ∷ []) number now
       (endings ++ replied reply now.local.owners.items now.local.pairs.items ∷ [])
   HasServedWorker-own commands number call reply before now endings has served =
-      let worker = number + 1 in
-      let ending = replied reply now.local.owners.items now.local.pairs.items in
-      let all = endings ++ ending ∷ [] in
-      let pushed =
-      Serves-push auto (calls_of worker commands) endings (book_of before).finished call ending has.more has.made served.serves in
-      record {
-        pass_of = has.pass;
-        number_is = has.same.number ∙ served.number_is;
-        idle = has.idle;
-        serves =
-            subst (λ calls. Serves auto calls all (book_of now).finished) (sym (calls_of-own worker commands call))
-            (subst (Serves auto (calls_of worker commands ++ call ∷ []) all) (sym has.finished) pushed);
-      }
+      subst (λ calls. HasServedCalls mix t auto number calls now (endings ++ replied reply now.local.owners.items now.local.pairs.items ∷ []))
+      (sym (calls_of-own (number + 1) commands call))
+      (HasServedCalls-more mix t auto number (calls_of (number + 1) commands) call reply before now endings has served)
 
   -- so it is where the reply is kept with the owners and the pairs that came with it
   pub served-kept : (commands : List (ℕ × Call)) (number : ℕ) (call : Call) (reply : Reply) (before now : Pass M)
@@ -117,25 +78,15 @@ module _ {M : Type 0} (mix : ℕ → ℕ → ℕ → ℕ) (t : Table M) (auto : 
   pub HasServedWorker-other : (commands : List (ℕ × Call)) (number : ℕ) (command : ℕ × Call) (pass : Pass M) (endings : List Ending)
       → command.0 ≢ number + 1 → HasServedWorker mix t auto commands number pass endings
       → HasServedWorker mix t auto (commands ++ command ∷ []) number pass endings
-  HasServedWorker-other commands number command pass endings other served = record {
-    pass_of = served.pass_of;
-    number_is = served.number_is;
-    idle = served.idle;
-    serves =
-        subst (λ calls. Serves auto calls endings (book_of pass).finished) (sym (calls_of-other (number + 1) commands command other))
-        served.serves;
-  }
+  HasServedWorker-other commands number command pass endings other served =
+      subst (λ calls. HasServedCalls mix t auto number calls pass endings)
+      (sym (calls_of-other (number + 1) commands command other)) served
 
   -- ---- the commands up to a place
 
   -- at first there is none
   pub HasServedWorker-none : (number : ℕ) (pass : Pass M) → IsNew mix t number pass → HasServedWorker mix t auto [] number pass []
-  HasServedWorker-none number pass new = record {
-    pass_of = new.pass;
-    number_is = new.number;
-    idle = ap is_idle new.local;
-    serves = ap (λ (b : Book). b.finished) new.book;
-  }
+  HasServedWorker-none number pass new = HasServedCalls-new mix t auto number pass new
 
   -- the command at the place
   module _ (items : List (ℕ × Call)) (i : ℕ) (next default : ℕ × Call) (here : next ≡ get_or items i default) (number : ℕ)

@@ -20,6 +20,8 @@ pub mod LookupCalls
 pub mod ShortCalls
 -- the calls of a command
 pub mod ServedCommands
+-- how callers get on that serve commands, and what that is once the table is closed
+pub mod ServedWorkers
 -- what is so of a run that serves commands
 pub mod ServingRuns
 -- how a table is opened

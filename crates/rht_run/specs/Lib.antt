@@ -10,6 +10,8 @@ pub mod Passes
 pub mod Caused
 -- what the calls of a command leave
 pub mod Served
+-- what callers leave that have served commands
+pub mod Workers
 -- a run that serves the commands of workers
 pub mod ServedRuns
 -- a call that is driven from outside its pass

@@ -5,8 +5,8 @@ use Rattle.std.proofs.lemmas.List.FromFn.{get_or-enumerate_from, length-enumerat
 use Rattle.std.proofs.lemmas.Result.{IfOk-weaker}
 use Rattle.rht_run.specs.declared.pass.Pass.{Pass}
 use Rattle.rht_run.specs.Passes.{IsNew}
+use Rattle.rht_run.proofs.ServedWorkers.{AreNew-place}
 use Rattle.rht_registry.specs.Outcomes.{HasServedWorker, HaveServed}
-use Rattle.rht_registry.proofs.ClosedOutcomes.{AreNew-place}
 use Rattle.rht_registry.proofs.registry.all_work.Goals as goal
 
 -- a job has the number of its place, and the pass there

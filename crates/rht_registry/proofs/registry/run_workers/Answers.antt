@@ -20,9 +20,9 @@ returns g c =
     let length_replies : length replies.items ≡ callers =
     omega (arith, many, replies.ok.0, c.in_ok-passes.ensures.replies, c.in_ok-left.ensures.len) in
     record {
-      config = c.in_ok-table.ensures.config;
-      passes = length_passes;
-      replies = length_replies;
+      config_same = c.in_ok-table.ensures.config;
+      many = length_passes;
+      workers = length_replies;
       each = λ i default below.
           subst (λ mix. HasServedWorker mix table script.auto script.commands.items i (get_or passes.items i default)
           (get_or replies.items i [])) c.requires.mix

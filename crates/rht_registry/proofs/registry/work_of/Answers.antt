@@ -1,6 +1,7 @@
 use Rattle.std.proofs.Common.{◌≡◌, ℕ, ◌+◌, ◌<◌, false, length, take, sym, subst, arith}
 use Rattle.rht_words.specs.declared.config.Config.{Config}
-use Rattle.rht_registry.proofs.ServedCalls.{new-below, served-kept, served-own, served-other, served-same}
+use Rattle.rht_run.proofs.ServedWorkers.{new-below}
+use Rattle.rht_registry.proofs.ServedCalls.{served-kept, served-own, served-other, served-same}
 use Rattle.rht_registry.proofs.SoundCommands.{IsCommandFor, sound-commands, next-command}
 use Rattle.rht_registry.proofs.registry.work_of.Goals.{then-command-worker+in_ok-push, else-command-worker}
 use Rattle.rht_registry.proofs.registry.work_of.Goals as goal
