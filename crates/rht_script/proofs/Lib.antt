@@ -26,10 +26,14 @@ pub mod PortTexts
 pub mod PlainScripts
 -- whatever is read can be said
 pub mod SayableScripts
+-- a dealt script that is read can be run
+pub mod DealtScripts
 -- the script of a number can be said, and what it has
 pub mod GeneratedCommands
 -- inputs, and what the definitions give for them
 pub mod WorkedInputs
+-- dealt scripts, and what the definitions give for them
+pub mod WorkedDeals
 -- what is said so far, before the lines still to be read
 pub mod LinesSoFar
 -- pieces of a text that are added one after another

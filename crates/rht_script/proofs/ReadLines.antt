@@ -19,7 +19,7 @@ use Rattle.rht_script.specs.declared.script.ScriptLine.{ScriptLine}
 use Rattle.rht_script.specs.declared.script.ScriptLine.TheVariants.{Command, Schedule}
 use Rattle.rht_script.specs.declared.cause.Cause.{Cause}
 use Rattle.rht_script.specs.declared.cause.Cause.TheVariants.{BadNumber, OutOfRange, UnknownWord, TooManyLines, LineTooLong}
-use Rattle.rht_script.specs.Grammar.{most_bytes, most_lines, most_in_line, at_line, words_at, lines_from, Said, said_from, reading_of}
+use Rattle.rht_script.specs.Grammar.{most_bytes, most_lines, most_in_line, at_line, words_at, lines_by, Said, script_by, reading_by, reading_of}
 use Rattle.rht_script.specs.TableLines.{table_of}
 use Rattle.rht_script.specs.CommandLines.{owner_limits, worker_limits, number_first, port_first, end_of, bind_of, find_of, all_of, release_of, rebind_of, bare_of, whole_walk, call_of, begins_schedule, command_of}
 use Rattle.rht_script.specs.ScheduleLines.{event_limits, events_of}
@@ -287,11 +287,11 @@ words_few number line = by_test (nat_lt most_lines number) refl
         IfOk-cond (λ words. number ≤ most_lines) (nat_lt most_in_line (length line)) (Err LineTooLong)
         (Ok (words_of line)) tt (ltb-false most_lines number is)
 
-module _ (P : ScriptLine → Type 0) (table : TableLine)
-    (each : (words : List (List ℕ)) → IfOk (line_of table words) P) where
+module _ (line_by : TableLine → List (List ℕ) → Result ScriptLine Cause) (P : ScriptLine → Type 0) (table : TableLine)
+    (each : (words : List (List ℕ)) → IfOk (line_by table words) P) where
   -- By induction over the lines: a line that is skipped says nothing, and any other is one more.
   pub lines_hold : (number : ℕ) (lines : List (List ℕ)) → number ≤ 1000001
-      → IfOk (lines_from number table lines) (AreLines P number)
+      → IfOk (lines_by line_by number table lines) (AreLines P number)
   lines_hold number [] few = record { each = tt; few = omega arith }
   lines_hold number (line ∷ lines) few =
       IfOk-then (λ (words : List (List ℕ)). number ≤ most_lines) (AreLines P number)
@@ -299,12 +299,12 @@ module _ (P : ScriptLine → Type 0) (table : TableLine)
       (IfOk-at_line (λ words. number ≤ most_lines) number (words_at number line) (words_few number line))
       (λ words here.
       let behind = lines_hold (number + 1) lines (omega (arith, here)) in
-      IfOk-cond (AreLines P number) (is_skipped words) (lines_from (number + 1) table lines) _
-      (earlier (lines_from (number + 1) table lines) behind)
-      (IfOk-then P (AreLines P number) (at_line number (line_of table words)) _
-      (IfOk-at_line P number (line_of table words) (each words)) (λ first holds.
+      IfOk-cond (AreLines P number) (is_skipped words) (lines_by line_by (number + 1) table lines) _
+      (earlier (lines_by line_by (number + 1) table lines) behind)
+      (IfOk-then P (AreLines P number) (at_line number (line_by table words)) _
+      (IfOk-at_line P number (line_by table words) (each words)) (λ first holds.
       IfOk-then (AreLines P (number + 1)) (AreLines P number)
-      (lines_from (number + 1) table lines) _ behind (λ others are.
+      (lines_by line_by (number + 1) table lines) _ behind (λ others are.
       record { each = (holds, are.each); few = (let more = are.few in omega arith) }))))
     where
       earlier : (read : Result (List ScriptLine) ScriptFault) → IfOk read (AreLines P (number + 1))
@@ -344,28 +344,26 @@ pub record AreSaid (P : ℕ → Config → ℕ × Call → Type 0) (Q : Config �
   pub schedule : AllByRecursion (Q said.config) said.schedule
   pub few : length said.commands + length said.schedule < most_lines
 
-module _ (P : ℕ → Config → ℕ × Call → Type 0) (Q : Config → Sched → Type 0)
-    (command : (table : TableLine) (words : List (List ℕ)) → IfOk (command_of table words) (P table.form table.config))
-    (schedule : (config : Config) → HoldsOfSchedule config (Q config)) where
+module _ (line_by : TableLine → List (List ℕ) → Result ScriptLine Cause) (P : ℕ → Config → ℕ × Call → Type 0) (Q : Config → Sched → Type 0)
+    (line : (table : TableLine) (words : List (List ℕ))
+    → IfOk (line_by table words) (HoldsOfLine (P table.form table.config) (Q table.config))) where
   -- By induction over the lines up to the table line.
   said_hold : (number : ℕ) (lines : List (List ℕ)) → 1 ≤ number → number ≤ 1000001
-      → IfOk (said_from number lines) (AreSaid P Q)
+      → IfOk (script_by line_by number lines) (AreSaid P Q)
   said_hold number [] first few = tt
-  said_hold number (line ∷ lines) first few =
+  said_hold number (line' ∷ lines) first few =
       IfOk-then (λ (words : List (List ℕ)). number ≤ most_lines) (AreSaid P Q)
-      (at_line number (words_at number line)) _
-      (IfOk-at_line (λ words. number ≤ most_lines) number (words_at number line) (words_few number line))
+      (at_line number (words_at number line')) _
+      (IfOk-at_line (λ words. number ≤ most_lines) number (words_at number line') (words_few number line'))
       (λ words here.
-      IfOk-cond (AreSaid P Q) (is_skipped words) (said_from (number + 1) lines) _
+      IfOk-cond (AreSaid P Q) (is_skipped words) (script_by line_by (number + 1) lines) _
       (said_hold (number + 1) lines (omega arith) (omega (arith, here)))
       (IfOk-after (AreSaid P Q) (at_line number (table_of words)) _ (λ table.
       let Commands = P table.form table.config in
       let Schedules = Q table.config in
       IfOk-then (AreLines (HoldsOfLine Commands Schedules) (number + 1)) (AreSaid P Q)
-      (lines_from (number + 1) table lines) _
-      (lines_hold (HoldsOfLine Commands Schedules) table
-      (line_holds Commands Schedules table (command table) (schedule table.config))
-      (number + 1) lines (omega (arith, here)))
+      (lines_by line_by (number + 1) table lines) _
+      (lines_hold line_by (HoldsOfLine Commands Schedules) table (line table) (number + 1) lines (omega (arith, here)))
       (λ others are.
       record {
         commands = commands_hold Commands Schedules others are.each;
@@ -373,9 +371,19 @@ module _ (P : ℕ → Config → ℕ × Call → Type 0) (Q : Config → Sched �
         few = (let more = are.few in omega (arith, length-among others));
       }))))
 
+  pub reading_by_holds : (bytes : List ℕ) (said : Said) → reading_by (script_by line_by) bytes ≡ Ok said → AreSaid P Q said
+  reading_by_holds bytes said read =
+      IfOk-at_ok (AreSaid P Q) read
+      (IfOk-cond (AreSaid P Q) (nat_lt most_bytes (length bytes)) _ (script_by line_by 1 (lines_of bytes)) tt
+      (said_hold 1 (lines_of bytes) (omega arith) (omega arith)))
+
+-- where lines below the table line are commands and lines of the schedule
+module _ (P : ℕ → Config → ℕ × Call → Type 0) (Q : Config → Sched → Type 0)
+    (command : (table : TableLine) (words : List (List ℕ)) → IfOk (command_of table words) (P table.form table.config))
+    (schedule : (config : Config) → HoldsOfSchedule config (Q config)) where
   pub reading_holds : (bytes : List ℕ) (said : Said) → reading_of bytes ≡ Ok said → AreSaid P Q said
   unfolding reading_of
   reading_holds bytes said read =
-      IfOk-at_ok (AreSaid P Q) read
-      (IfOk-cond (AreSaid P Q) (nat_lt most_bytes (length bytes)) _ (said_from 1 (lines_of bytes)) tt
-      (said_hold 1 (lines_of bytes) (omega arith) (omega arith)))
+      reading_by_holds line_of P Q
+      (λ table. line_holds (P table.form table.config) (Q table.config) table (command table) (schedule table.config))
+      bytes said read

@@ -21,6 +21,7 @@ use Rattle.rht_script.specs.declared.script.Script.{Script}
 use Rattle.rht_script.specs.declared.script.TableLine.{TableLine}
 use Rattle.rht_script.specs.declared.script.Sched.{Sched}
 use Rattle.rht_script.specs.declared.script.Sched.TheVariants.{Step, Skip, Finish}
+use Rattle.rht_script.specs.declared.script.ScriptLine.{ScriptLine}
 use Rattle.rht_script.specs.declared.cause.Cause.{Cause}
 use Rattle.rht_script.specs.declared.cause.Cause.TheVariants.{NoTableLine, UnknownWord, OptionsDisagree}
 use Rattle.rht_script.specs.declared.options.Setting.{Setting}
@@ -28,10 +29,11 @@ use Rattle.rht_script.specs.declared.options.Setting.TheVariants.{Nodes, Hint, M
 use Rattle.rht_script.specs.declared.options.Options.{Options}
 use Rattle.rht_script.specs.Spelling.{is_word, is_within, number_of, lines_of, is_skipped}
 use Rattle.rht_script.specs.TableLines.{numbered, kind_of, hash_of, switch_of, auto_of, setting_of, no_options, with_setting, options_from, configured, sizes_agree, has_room, config_of, table_of}
-use Rattle.rht_script.specs.CommandLines.{owner_limits, worker_limits, whole_walk, command_of}
+use Rattle.rht_script.specs.CommandLines.{owner_limits, worker_limits, whole_walk, call_of, command_of}
 use Rattle.rht_script.specs.PortWords.{one_number, net_and_number, form_limits, IsForm, IsPortIn, is_port_in}
 use Rattle.rht_script.specs.ScheduleLines.{event_limits}
-use Rattle.rht_script.specs.Grammar.{most_bytes, coded, at_line, words_at, Said, lines_from, said_from, reading_of}
+use Rattle.rht_script.specs.Grammar.{most_bytes, coded, at_line, words_at, Said, lines_by, script_by, reading_by, reading_of}
+use Rattle.rht_script.specs.ScriptLines.{line_of}
 use Rattle.rht_script.specs.Allowed.{IsAllowed, AreAllowed}
 use Rattle.rht_script.specs.Plain.{IsSayableCall, IsSayableCommand, IsSayableSched, IsSayable}
 use Rattle.rht_script.specs.Reading.{said_by}
@@ -182,7 +184,7 @@ table_form (table ∷ kind ∷ words) =
 abbrev IsTableSaid : TableLine → Type 0
 IsTableSaid table = IsSettledTable table × HasForm table
 
-abbrev IsSettledSaid : Said → Type 0
+abbrev pub IsSettledSaid : Said → Type 0
 IsSettledSaid said = IsSettled said.config × IsForm said.form
 
 table_said : (words : List (List ℕ)) → IfOk (table_of words) IsTableSaid
@@ -193,26 +195,31 @@ table_said words = both (table_of words) (table_settled words) (table_form words
     both (Err cause) settled form = tt
 
 -- By induction over the lines up to the table line.
-said_settled : (number : ℕ) (lines : List (List ℕ)) → IfOk (said_from number lines) IsSettledSaid
-said_settled number [] = tt
-said_settled number (line ∷ lines) =
+said_settled : (line_by : TableLine → List (List ℕ) → Result ScriptLine Cause) (number : ℕ) (lines : List (List ℕ))
+    → IfOk (script_by line_by number lines) IsSettledSaid
+said_settled line_by number [] = tt
+said_settled line_by number (line ∷ lines) =
     IfOk-after IsSettledSaid (at_line number (words_at number line)) _ (λ words.
-    IfOk-cond IsSettledSaid (is_skipped words) (said_from (number + 1) lines) _
-    (said_settled (number + 1) lines)
+    IfOk-cond IsSettledSaid (is_skipped words) (script_by line_by (number + 1) lines) _
+    (said_settled line_by (number + 1) lines)
     (IfOk-then IsTableSaid IsSettledSaid (at_line number (table_of words)) _
     (IfOk-at_line IsTableSaid number (table_of words) (table_said words)) (λ table is.
-    IfOk-after IsSettledSaid (lines_from (number + 1) table lines) _ (λ others. is))))
+    IfOk-after IsSettledSaid (lines_by line_by (number + 1) table lines) _ (λ others. is))))
 
--- each command is one of a worker, and its call has a verb
-pub command_sayable : (table : TableLine) (words : List (List ℕ))
-    → IfOk (command_of table words) (IsSayableCommand table.form table.config)
-command_sayable table =
+-- so it is of bytes that are read, whatever their lines below the table line are
+pub IsSettledSaid-read : (line_by : TableLine → List (List ℕ) → Result ScriptLine Cause) (bytes : List ℕ) (said : Said)
+    → reading_by (script_by line_by) bytes ≡ Ok said → IsSettledSaid said
+IsSettledSaid-read line_by bytes said read =
+    let lines = lines_of bytes in
+    IfOk-at_ok IsSettledSaid read
+    (IfOk-cond IsSettledSaid (nat_lt most_bytes (length bytes)) _ (script_by line_by 1 lines) tt (said_settled line_by 1 lines))
+
+-- each call that is read has a verb
+pub call_sayable : (table : TableLine) (words : List (List ℕ))
+    → IfOk (call_of table words) (IsSayableCall table.form table.config)
+call_sayable table =
     let owner_is = IsWithinLimits-test owner_limits in
-    let form = table.form in
-    let config = table.config in
-    command_holds (IsSayableCommand form config) (IsSayableCall form config) table
-    (λ worker call within sayable. (IsWithinLimits-test (worker_limits config) worker within, sayable))
-    (call_holds table (IsSayableCall form config) record {
+    call_holds table (IsSayableCall table.form table.config) record {
       bind = λ port owner is_port is_owner. (is_port, owner_is owner is_owner, refl);
       find = λ port is_port. is_port;
       list = λ port is_port. is_port;
@@ -222,7 +229,17 @@ command_sayable table =
       work = tt;
       tidy = tt;
       count = tt;
-    })
+    }
+
+-- and each command is one of a worker
+pub command_sayable : (table : TableLine) (words : List (List ℕ))
+    → IfOk (command_of table words) (IsSayableCommand table.form table.config)
+command_sayable table =
+    let form = table.form in
+    let config = table.config in
+    command_holds (IsSayableCommand form config) (IsSayableCall form config) table
+    (λ worker call within sayable. (IsWithinLimits-test (worker_limits config) worker within, sayable))
+    (call_sayable table)
 
 -- each line of the schedule is one of a worker, with a number of events or calls
 sched_sayable : (config : Config) → HoldsOfSchedule config (IsSayableSched config)
@@ -238,10 +255,7 @@ sched_sayable config =
 pub says_sayable : SaysSayable
 unfolding reading_of
 says_sayable bytes said read =
-    let lines = lines_of bytes in
-    let settled = IfOk-at_ok IsSettledSaid read
-    (IfOk-cond IsSettledSaid (nat_lt most_bytes (length bytes)) _ (said_from 1 lines) tt
-    (said_settled 1 lines)) in
+    let settled = IsSettledSaid-read line_of bytes said read in
     let are = reading_holds IsSayableCommand IsSayableSched command_sayable sched_sayable bytes said read in
     record {
       config = settled.0;
@@ -281,7 +295,7 @@ whole_walk-sound : (config : Config) → is_sound_call config (whole_walk config
 whole_walk-sound config = eq-eqb config.nodes config.nodes refl
 
 -- a call for which there is a verb can be run
-is_sound_call-sayable : (form : ℕ) (config : Config) (call : Call) → IsSayableCall form config call
+pub is_sound_call-sayable : (form : ℕ) (config : Config) (call : Call) → IsSayableCall form config call
     → is_sound_call config call ≡ true
 is_sound_call-sayable form config (Bind port owner once) sayable = ap not sayable.2
 is_sound_call-sayable form config (Find port) sayable = refl
@@ -326,7 +340,7 @@ both_within config worker number both =
     (is_within-IsWithinLimits event_limits number both.1)
 
 -- the numbers of a call for which there is a verb are within their limits
-has_sound_numbers-sayable : (form : ℕ) (config : Config) (call : Call) → IsSayableCall form config call
+pub has_sound_numbers-sayable : (form : ℕ) (config : Config) (call : Call) → IsSayableCall form config call
     → has_sound_numbers form call ≡ true
 has_sound_numbers-sayable form config (Bind port owner once) sayable = port_and_owner form port owner sayable.0 sayable.1
 has_sound_numbers-sayable form config (Find port) sayable = is_port_in-IsPortIn form port sayable

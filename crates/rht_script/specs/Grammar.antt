@@ -65,17 +65,6 @@ pub record Said : Type 0 where
   pub commands : List (ℕ × Call)
   pub schedule : List Sched
 
--- what the lines below the table line say, which are counted on from this number
-abbrev pub lines_from : ℕ → TableLine → List (List ℕ) → Result (List ScriptLine) ScriptFault
-lines_from number table [] = Ok []
-lines_from number table (line ∷ lines) = do
-  words ← at_line number (words_at number line)
-  if is_skipped words then lines_from (number + 1) table lines
-      else do
-        first ← at_line number (line_of table words)
-        others ← lines_from (number + 1) table lines
-        Ok (first ∷ others)
-
 -- a table line and lines below it say this: the commands and the schedule each in the order of their lines
 abbrev pub said_of : TableLine → List ScriptLine → Said
 said_of table lines = record {
@@ -86,21 +75,48 @@ said_of table lines = record {
   schedule = schedule_among lines;
 }
 
--- what is said with this table line by these lines below it
-abbrev pub said_with : TableLine → ℕ → List (List ℕ) → Result Said ScriptFault
-said_with table number lines = do
-  said ← lines_from number table lines
-  Ok (said_of table said)
+-- ---- lines, of which each below the table line says what such a reading of its words gives
 
--- what is said in these lines, which are counted on from this number: the first that isn't skipped is the table line
+module _ (line_by : TableLine → List (List ℕ) → Result ScriptLine Cause) where
+  -- what the lines below the table line say, which are counted on from this number
+  abbrev pub lines_by : ℕ → TableLine → List (List ℕ) → Result (List ScriptLine) ScriptFault
+  lines_by number table [] = Ok []
+  lines_by number table (line ∷ lines) = do
+    words ← at_line number (words_at number line)
+    if is_skipped words then lines_by (number + 1) table lines
+        else do
+          first ← at_line number (line_by table words)
+          others ← lines_by (number + 1) table lines
+          Ok (first ∷ others)
+
+  -- what is said with this table line by these lines below it
+  abbrev pub below_by : TableLine → ℕ → List (List ℕ) → Result Said ScriptFault
+  below_by table number lines = do
+    said ← lines_by number table lines
+    Ok (said_of table said)
+
+  -- what is said in these lines, which are counted on from this number: the first that isn't skipped is the table line
+  abbrev pub script_by : ℕ → List (List ℕ) → Result Said ScriptFault
+  script_by number [] = Err (fault_at number NoTableLine)
+  script_by number (line ∷ lines) = do
+    words ← at_line number (words_at number line)
+    if is_skipped words then script_by (number + 1) lines
+        else do
+          table ← at_line number (table_of words)
+          below_by table (number + 1) lines
+
+-- ---- commands and lines of the schedule
+
+abbrev pub lines_from : ℕ → TableLine → List (List ℕ) → Result (List ScriptLine) ScriptFault
+lines_from = lines_by line_of
+
+abbrev pub said_with : TableLine → ℕ → List (List ℕ) → Result Said ScriptFault
+said_with = below_by line_of
+
 abbrev pub said_from : ℕ → List (List ℕ) → Result Said ScriptFault
-said_from number [] = Err (fault_at number NoTableLine)
-said_from number (line ∷ lines) = do
-  words ← at_line number (words_at number line)
-  if is_skipped words then said_from (number + 1) lines
-      else do
-        table ← at_line number (table_of words)
-        said_with table (number + 1) lines
+said_from = script_by line_of
+
+-- ---- bytes
 
 -- what is read of the bytes by a reading of their lines, which are counted from 1; of too many bytes the fault is at the line
 -- at which they become too many

@@ -22,6 +22,8 @@ pub mod Cursors
 pub mod Reading
 -- which scripts can be run
 pub mod Sound
+-- dealt scripts, whose commands any worker may do: which bytes are one, and which can be run
+pub mod Dealt
 -- what today's words can say, and how it is spelled plainly
 pub mod Plain
 -- the script that is made from a number

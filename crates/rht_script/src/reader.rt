@@ -5,11 +5,12 @@
 //! other programs read the same lines and words.
 
 ghost use Rattle.std.specs.Prelude.{◌≡◌, ◌+◌, ◌<◌, ◌≤◌, ◌==◌, ◌∷◌, Ok, Err, IfOk, IfErr, MatchResult, MatchOption, count_by, length, take, fold};
-ghost use Rattle.rht_script.specs.Grammar.{fault_at, said_with, said_from};
+ghost use Rattle.rht_script.specs.Grammar.{fault_at, below_by, script_by};
 ghost use Rattle.rht_script.specs.TableLines.{no_options, table_of, kind_of, hash_of, switch_of, auto_of, setting_of, options_from};
 ghost use Rattle.rht_script.specs.CommandLines.{command_of, call_of, bind_of, find_of, all_of, release_of, rebind_of, bare_of, whole_walk};
 ghost use Rattle.rht_script.specs.ScheduleLines.{events_of};
 ghost use Rattle.rht_script.specs.ScriptLines.{line_of};
+ghost use Rattle.rht_script.specs.Dealt.{dealt_line, dealt_of, dealing_of, line_as, reading_as, SaysDealt, IsDealtScript};
 ghost use Rattle.rht_script.specs.Reading.{IsScript, IsReason, IsReasonFor, said_by};
 ghost use Rattle.rht_script.specs.Allowed.{IsAllowed, AreAllowed};
 ghost use Rattle.rht_script.specs.Sound.{IsSoundScript};
@@ -28,13 +29,13 @@ pub use self::places::{line_end, word_at};
 use crate::cause::{Cause, at_line};
 use crate::options::{Options, Setting};
 use crate::script::{
-    EVENTS, FORMS, ONE_NUMBER, ReadError, Sched, Script, ScriptFault, ScriptLine, TableLine,
-    worker_limits,
+    Below, EVENTS, FORMS, NOBODY, ONE_NUMBER, ReadError, Sched, Script, ScriptFault, ScriptLine,
+    TableLine, is_dealt_call, worker_limits,
 };
 use names::{
-    ALL, AUTO, BIND, COUNT, FIND, FINISH, FORM, HASH, HINT, LISTED, LOW, MANUAL, MAX, MIN, MIX,
-    NODES, OFF, ON, PAGES, REBIND, RELEASE, REWALKS, SEED, SHRINK, SINGLE, SKIP, STEP, TABLE, TIDY,
-    WALK, WORK, WORKERS,
+    ALL, ANY, AUTO, BIND, COUNT, FIND, FINISH, FORM, HASH, HINT, LISTED, LOW, MANUAL, MAX, MIN,
+    MIX, NODES, OFF, ON, PAGES, REBIND, RELEASE, REWALKS, SEED, SHRINK, SINGLE, SKIP, STEP, TABLE,
+    TIDY, WALK, WORK, WORKERS,
 };
 use numbers::{OWNER, number_within};
 use rht_model::Call;
@@ -54,12 +55,32 @@ pub fn read(alloc: Global, bytes: &[u8]) -> Result<Script, ReadError>
     ensures sound { IfOk result IsSoundScript }
     ensures reason { IfErr result (IsReason bytes.now) }
 {
+    read_as(alloc, Below::Workers, bytes)
+}
+
+/// Reads the whole input as a dealt script, whose commands any worker may do: each has the number 0
+/// in the place of its worker's, and there is no schedule. Below the table line each line that isn't
+/// skipped is the word `any` and a command `bind`, `find`, `all`, `release`, `rebind` or `count`; another first
+/// word, or the word of another command, is an unknown one. Faults are told as `read` tells them.
+pub fn read_dealt(alloc: Global, bytes: &[u8]) -> Result<Script, ReadError>
+    ensures script { IfOk result (SaysDealt bytes.now) }
+    ensures dealt { IfOk result IsDealtScript }
+    ensures reason { IfErr result (IsReasonFor (dealing_of bytes.now)) }
+{
+    read_as(alloc, Below::Any, bytes)
+}
+
+/// Reads the whole input as a script of such lines.
+fn read_as(alloc: Global, below: Below, bytes: &[u8]) -> Result<Script, ReadError>
+    ensures script { IfOk result (λ script. reading_as below bytes.now ≡ Ok (said_by script)) }
+    ensures reason { IfErr result (IsReasonFor (reading_as below bytes.now)) }
+{
     if bytes.len() > MOST_BYTES {
         return Err(ReadError::Fault(too_long(bytes)));
     }
     let mut lines = Lines::new(bytes);
-    let table = first_table(&mut lines)?;
-    script_below(alloc, &table, lines)
+    let table = first_table(below, &mut lines)?;
+    script_below(alloc, below, &table, lines)
 }
 
 /// The fault of too many bytes, at the line of the first byte that is one too many.
@@ -79,11 +100,12 @@ fn line_feeds(bytes: &[u8]) -> u32
     bytes.iter().filter(|byte| **byte == b'\n').count() as u32
 }
 
-/// What the table line says, which is the first line that isn't skipped.
-fn first_table(lines: &mut Lines) -> Result<TableLine, ScriptFault>
+/// What the table line says, which is the first line that isn't skipped, in a script of such lines.
+fn first_table(below: Below, lines: &mut Lines) -> Result<TableLine, ScriptFault>
     ensures { MatchResult result
-        (λ table. said_from lines.old.number lines.old.lines ≡ said_with table lines.new.number lines.new.lines)
-        (λ fault. said_from lines.old.number lines.old.lines ≡ Err fault) }
+        (λ table. script_by (line_as below) lines.old.number lines.old.lines
+        ≡ below_by (line_as below) table lines.new.number lines.new.lines)
+        (λ fault. script_by (line_as below) lines.old.number lines.old.lines ≡ Err fault) }
 {
     while let Some(next) = lines.next() {
         let (number, line) = next?;
@@ -96,11 +118,16 @@ fn first_table(lines: &mut Lines) -> Result<TableLine, ScriptFault>
 }
 
 /// The script that begins with this table line and goes on with the lines that are left.
-fn script_below(alloc: Global, table: &TableLine, mut lines: Lines) -> Result<Script, ReadError>
+fn script_below(
+    alloc: Global,
+    below: Below,
+    table: &TableLine,
+    mut lines: Lines,
+) -> Result<Script, ReadError>
     ensures script { IfOk result
-        (λ script. said_with table.now lines.entry.number lines.entry.lines ≡ Ok (said_by script)) }
+        (λ script. below_by (line_as below) table.now lines.entry.number lines.entry.lines ≡ Ok (said_by script)) }
     ensures reason { IfErr result
-        (IsReasonFor (said_with table.now lines.entry.number lines.entry.lines)) }
+        (IsReasonFor (below_by (line_as below) table.now lines.entry.number lines.entry.lines)) }
 {
     let mut script = Script {
         config: table.config,
@@ -113,7 +140,7 @@ fn script_below(alloc: Global, table: &TableLine, mut lines: Lines) -> Result<Sc
         let (number, line) = next?;
         let words = Words::new(line);
         if !words.is_skipped() {
-            match at_line(number, script_line(table, words))? {
+            match at_line(number, line_below(below, table, words))? {
                 ScriptLine::Command(command) => script.commands.push(command)?,
                 ScriptLine::Schedule(sched) => script.schedule.push(sched)?,
             }
@@ -241,8 +268,18 @@ fn auto(value: &[u8]) -> Result<bool, Cause>
     }
 }
 
-/// What the words of a line below the table line say. Any first word that begins no line of the
-/// schedule stands at the place of a command's worker.
+/// What the words of a line below the table line say, of such lines.
+fn line_below(below: Below, table: &TableLine, words: Words) -> Result<ScriptLine, Cause>
+    ensures { result ≡ line_as below table.now words.entry }
+{
+    match below {
+        Below::Workers => script_line(table, words),
+        Below::Any => dealt_line(table, words),
+    }
+}
+
+/// What the words of a line say that is a command of a worker, or a line of the schedule. Any first
+/// word that begins no line of the schedule stands at the place of a command's worker.
 #[tactic(auto, unfolding(crate::specs::ScriptLines::line_of))]
 fn script_line(table: &TableLine, mut words: Words) -> Result<ScriptLine, Cause>
     ensures { result ≡ line_of table.now words.entry }
@@ -284,6 +321,28 @@ fn command(table: &TableLine, worker: &[u8], words: Words) -> Result<(u32, Call)
     }
     let worker = number_within(worker_limits(&table.config), worker)?;
     Ok((worker, call(table, words)?))
+}
+
+/// What the words of a line say that is a command which any worker may do.
+#[tactic(auto, unfolding(crate::specs::Dealt::dealt_of))]
+fn dealt_line(table: &TableLine, mut words: Words) -> Result<ScriptLine, Cause>
+    ensures { result ≡ dealt_of table.now words.entry }
+{
+    if words.next() != Some(ANY) {
+        return Err(Cause::UnknownWord);
+    }
+    dealt_command((NOBODY, call(table, words)?))
+}
+
+/// The line of a command, where any worker may do it.
+fn dealt_command(command: (u32, Call)) -> Result<ScriptLine, Cause>
+    ensures { result ≡ dealt_line command }
+{
+    if is_dealt_call(command.1) {
+        Ok(ScriptLine::Command(command))
+    } else {
+        Err(Cause::UnknownWord)
+    }
 }
 
 /// What a verb asks below this table line with the words behind it.

@@ -5,6 +5,7 @@ ghost use Rattle.rht_script.specs.declared.script.ReadError.TheVariants.{Fault, 
 ghost use Rattle.std.specs.List.{list_all};
 ghost use Rattle.rht_script.specs.Sound.{IsSoundScript, has_sound_numbers, is_sound_command, is_sound_call, is_sound_line};
 ghost use Rattle.rht_script.specs.PortWords.{is_port_in};
+ghost use Rattle.rht_script.specs.Dealt.{is_dealt_call, is_dealt_command, IsDealtScript};
 ghost use Rattle.rht_script.specs.CommandLines.{worker_limits};
 
 use rht_model::Call;
@@ -43,7 +44,8 @@ pub struct Script {
     pub auto: bool,
     /// How ports are written: 1, as one number; 2, as one number or with a net too.
     pub form: u32,
-    /// The commands in the order of their lines, each with its worker, counted from 1.
+    /// The commands in the order of their lines, each with its worker, counted from 1; in a dealt script
+    /// with 0, since they are nobody's yet.
     pub commands: Vec<(u32, Call)>,
     /// The schedule that a replay follows, in the order of its lines.
     pub schedule: Vec<Sched>,
@@ -51,6 +53,9 @@ pub struct Script {
 
 /// The greatest number of lines of a script, and of its commands.
 pub(crate) const MOST_LINES: usize = 1_000_000;
+
+/// What stands in the place of a worker's number where a command is nobody's yet.
+pub(crate) const NOBODY: u32 = 0;
 
 /// The events of a line of a schedule, and at `finish` the calls that end.
 pub(crate) const EVENTS: Limits = Limits {
@@ -70,6 +75,39 @@ impl Script {
             && are_sound_commands(self.form, &self.config, &self.commands)
             && are_sound_lines(&self.config, &self.schedule)
     }
+}
+
+impl Script {
+    /// Whether the script can be dealt: a table can be opened with its config, there is such a form,
+    /// each command fits them and is for any worker, and there is no schedule.
+    pub fn is_dealt(&self) -> bool
+        ensures { IsTrue result ↔ IsDealtScript self.now }
+    {
+        self.config.is_settled()
+            && FORMS.allow(self.form)
+            && self.commands.len() <= MOST_LINES
+            && are_dealt_commands(self.form, &self.config, &self.commands)
+            && self.schedule.is_empty()
+    }
+}
+
+/// Whether each command is for any worker, its port can be named in this form, and its call can be run.
+fn are_dealt_commands(form: u32, config: &Config, commands: &[(u32, Call)]) -> bool
+    ensures { result ≡ list_all (is_dealt_command form config.now) commands.now }
+{
+    commands
+        .iter()
+        .all(|command| is_dealt_command(form, config, *command))
+}
+
+/// Whether the command is for any worker, its port can be named in this form, and its call can be run.
+fn is_dealt_command(form: u32, config: &Config, command: (u32, Call)) -> bool
+    ensures { result ≡ is_dealt_command form config.now command }
+{
+    command.0 == NOBODY
+        && has_sound_numbers(form, command.1)
+        && is_dealt_call(command.1)
+        && is_sound_call(config, command.1)
 }
 
 /// Whether each command is a worker's, its port can be named in this form, and its call can be run.
@@ -150,6 +188,21 @@ pub(crate) fn worker_limits(config: &Config) -> Limits
     }
 }
 
+/// Whether any worker may do the call: it is about a port, or reads the count.
+pub(crate) fn is_dealt_call(call: Call) -> bool
+    ensures { result ≡ is_dealt_call call }
+{
+    match call {
+        Call::Bind { .. }
+        | Call::Find { .. }
+        | Call::All { .. }
+        | Call::Release { .. }
+        | Call::Rebind { .. }
+        | Call::Count => true,
+        Call::Walk { .. } | Call::Work | Call::Tidy => false,
+    }
+}
+
 /// A line of a schedule, of a worker counted from 1. Its number is from 1 to 1,000,000.
 #[derive(Clone, Copy, Debug, PartialEq, Eq)]
 pub enum Sched {
@@ -159,6 +212,15 @@ pub enum Sched {
     Skip { worker: u32, number: u32 },
     /// Events of the worker until so many more of its calls have ended.
     Finish { worker: u32, number: u32 },
+}
+
+/// What the lines below a table line are.
+#[derive(Clone, Copy, Debug, PartialEq, Eq)]
+pub(crate) enum Below {
+    /// Commands, each of the worker that it names, and lines of the schedule.
+    Workers,
+    /// Commands that any worker may do.
+    Any,
 }
 
 /// What a line below the table line says.

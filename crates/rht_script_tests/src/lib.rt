@@ -7,6 +7,8 @@
 #[cfg(test)]
 mod asserts;
 #[cfg(test)]
+mod dealt;
+#[cfg(test)]
 mod generator;
 #[cfg(test)]
 mod operations;

@@ -63,6 +63,9 @@ pub const AUTO: &[u8] = b"auto";
 /// Only a command does.
 pub const MANUAL: &[u8] = b"manual";
 
+/// The first word of a command that any worker may do.
+pub const ANY: &[u8] = b"any";
+
 /// The verb that binds a port to an owner.
 pub const BIND: &[u8] = b"bind";
 
