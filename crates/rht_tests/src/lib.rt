@@ -1,11 +1,14 @@
-//! The tests of `rht_run` and `rht_registry`: calls of a running table, scripts done on it, and replays.
+//! The tests of `rht_run`, `rht_registry` and `rht_deal`: calls of a running table, scripts done on it and
+//! dealt, and replays.
 //!
-//! There is no code here but tests. They use what the two crates hand out, and stand in a crate of
+//! There is no code here but tests. They use what the three crates hand out, and stand in a crate of
 //! their own since a crate with tests is proved twice, with them and without.
 #![tactic(auto)]
 
 #[cfg(test)]
 mod asserts;
+#[cfg(test)]
+mod dealing;
 #[cfg(test)]
 mod library;
 #[cfg(test)]

@@ -1,0 +1,28 @@
+//! What follows for a script that was dealt rightly. Each function is empty, and its clause is the law.
+
+ghost use Rattle.rht_deal.specs.Laws.{TellsEachOnce, TellsNoOther, TellsWorkers, DoesAsTold, HistoryFits};
+
+/// Of each command it is told exactly once that it was done.
+pub fn each_once()
+    ensures { TellsEachOnce }
+{}
+
+/// Of nothing that is no command it is told that it was done.
+pub fn no_other()
+    ensures { TellsNoOther }
+{}
+
+/// Of each command it is told that a worker of the table did it.
+pub fn by_workers()
+    ensures { TellsWorkers }
+{}
+
+/// Each worker did just the commands that are told of it, in the order of their numbers, with these answers.
+pub fn as_told()
+    ensures { DoesAsTold }
+{}
+
+/// A legal history fits what was done.
+pub fn history_fits()
+    ensures { HistoryFits }
+{}
