@@ -14,5 +14,7 @@ pub mod Headlines
 pub mod ReplayTexts
 -- what the verdict on a claimed history is printed as
 pub mod VerdictTexts
+-- what was dealt is printed as a text of the form `deal`
+pub mod DealTexts
 -- how a form that reads its input is served
 pub mod ServedScripts

@@ -7,12 +7,13 @@ use Rattle.std.specs.Io.KnownBytes.{Consumes, IsAtEnd}
 use Rattle.std.proofs.lemmas.Bool.{cases_lt}
 use Rattle.std.proofs.lemmas.List.{length-take-le}
 use Rattle.rht_script.specs.declared.script.ScriptFault.{ScriptFault}
-use Rattle.rht_script.specs.Grammar.{Said, most_bytes, reading_of}
+use Rattle.rht_script.specs.Dealt.{dealt_of, dealing_of}
+use Rattle.rht_script.specs.Grammar.{Said, most_bytes, script_by, reading_of}
 use Rattle.rht_script.proofs.ReadingLemmas.{reading_by-front, reading_by-long, reading_of-front, reading_of-long}
 use Rattle.rht_check.specs.Reading.{SaidClaim, claimed_from, claim_reading_of}
 use Rattle.rht_cli.specs.declared.form.Form.{Form}
-use Rattle.rht_cli.specs.declared.form.Form.TheVariants.{Run, Replay, Gen, Check}
-use Rattle.rht_cli.specs.Input.{IsRead, IsReadAs, IsAtFault, IsScriptRead, IsClaimRead}
+use Rattle.rht_cli.specs.declared.form.Form.TheVariants.{Run, Replay, Gen, Deal, Check}
+use Rattle.rht_cli.specs.Input.{IsRead, IsReadAs, IsAtFault, IsScriptRead, IsDealRead, IsClaimRead}
 use Rattle.rht_cli.specs.Forms.{ReadsScript, Prints, HasInput, IsFaultOf}
 
 -- what was read of told bytes, to their end, is all of them
@@ -39,6 +40,13 @@ pub script_bounded : IsBounded reading_of
 script_bounded = record {
   front = reading_of-front;
   long = λ bytes said long says. (let fault = reading_of-long bytes long in cc);
+}
+
+pub deal_bounded : IsBounded dealing_of
+unfolding dealing_of
+deal_bounded = record {
+  front = reading_by-front (script_by dealt_of);
+  long = λ bytes said long says. (let fault = reading_by-long (script_by dealt_of) bytes long in cc);
 }
 
 pub claim_bounded : IsBounded claim_reading_of
@@ -144,6 +152,8 @@ not_both Run bytes rest left_after fault input refused =
 not_both Replay bytes rest left_after fault input refused =
     said_or_fault reading_of script_bounded bytes rest left_after input.said fault input.read refused
 not_both (Gen number) bytes rest left_after fault input refused = absurd refused
+not_both Deal bytes rest left_after fault input refused =
+    said_or_fault dealing_of deal_bounded bytes rest left_after input.said fault input.read refused
 not_both Check bytes rest left_after fault input refused =
     said_or_fault claim_reading_of claim_bounded bytes rest left_after input.said fault input.read refused
 
@@ -154,6 +164,7 @@ unfolding HasInput Prints
 HasInput-printed Run left left_after text printed = record { said = printed.said; read = printed.read }
 HasInput-printed Replay left left_after text printed = record { said = printed.said; read = printed.read }
 HasInput-printed (Gen number) left left_after text printed = printed.0
+HasInput-printed Deal left left_after text printed = record { said = printed.said; read = printed.read }
 HasInput-printed Check left left_after text printed = record { said = printed.said; read = printed.read }
 
 -- told input has one first fault
@@ -167,6 +178,8 @@ one_fault Run bytes rest left_after first second one other =
 one_fault Replay bytes rest left_after first second one other =
     one_first reading_of script_bounded bytes rest left_after first second one other
 one_fault (Gen number) bytes rest left_after first second one other = absurd one
+one_fault Deal bytes rest left_after first second one other =
+    one_first dealing_of deal_bounded bytes rest left_after first second one other
 one_fault Check bytes rest left_after first second one other =
     one_first claim_reading_of claim_bounded bytes rest left_after first second one other
 
@@ -177,6 +190,7 @@ unfolding HasInput
 HasInput-script Run reads left left_after said read = record { said = said; read = read }
 HasInput-script Replay reads left left_after said read = record { said = said; read = read }
 HasInput-script (Gen number) reads left left_after said read = absurd reads
+HasInput-script Deal reads left left_after said read = absurd reads
 HasInput-script Check reads left left_after said read = absurd reads
 
 -- and other bytes that were read are input that is at fault
@@ -186,7 +200,19 @@ unfolding IsFaultOf
 IsFaultOf-script Run reads left left_after fault read = read
 IsFaultOf-script Replay reads left left_after fault read = read
 IsFaultOf-script (Gen number) reads left left_after fault read = absurd reads
+IsFaultOf-script Deal reads left left_after fault read = absurd reads
 IsFaultOf-script Check reads left left_after fault read = absurd reads
+
+-- a dealt script that was read is the input of `deal`, and other bytes are input that is at fault
+pub HasInput-deal : (left left_after : Option (List ℕ)) (said : Said) → IsDealRead left left_after said
+    → HasInput Deal left left_after
+unfolding HasInput
+HasInput-deal left left_after said read = record { said = said; read = read }
+
+pub IsFaultOf-deal : (left left_after : Option (List ℕ)) (fault : ScriptFault) → IsAtFault dealing_of left left_after fault
+    → IsFaultOf Deal left left_after fault
+unfolding IsFaultOf
+IsFaultOf-deal left left_after fault read = read
 
 -- a claimed history that was read is the input of `check`, and other bytes are input that is at fault
 pub HasInput-claim : (left left_after : Option (List ℕ)) (said : SaidClaim) → IsClaimRead left left_after said

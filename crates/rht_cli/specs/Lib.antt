@@ -6,6 +6,8 @@ pub mod RunText
 pub mod GenText
 -- the text of a script that was replayed
 pub mod ReplayText
+-- the text of a script that was dealt
+pub mod DealText
 -- the text of the verdict on a claimed history
 pub mod VerdictText
 -- the command forms: their words, their input and their text
@@ -14,3 +16,5 @@ pub mod Forms
 pub mod Endings
 -- the headline
 pub mod Headline
+-- the headline for commands that any worker may do
+pub mod DealHeadline

@@ -18,6 +18,9 @@ pub enum Form {
     /// `gen NUMBER`: reads nothing, does the commands of the script of this number, and sums up in
     /// a line what they are answered and what is bound at the end.
     Gen { number: u32 },
+    /// `deal`: reads a dealt script, and prints who did each of its commands and what that was
+    /// answered, and the last bindings.
+    Deal,
     /// `check`: reads a claimed history, and prints whether it is legal, or what is wrong with it.
     Check,
 }
@@ -43,6 +46,8 @@ fn form_of_word(word: &str) -> Option<Form>
         Some(Form::Run)
     } else if word == "replay" {
         Some(Form::Replay)
+    } else if word == "deal" {
+        Some(Form::Deal)
     } else if word == "check" {
         Some(Form::Check)
     } else {

@@ -1,18 +1,19 @@
-//! Reading the whole input, and no more of it than a script can have, as a script or as a claimed
-//! history.
+//! Reading the whole input, and no more of it than a script can have, as a script, as a dealt one, or as
+//! a claimed history.
 
 ghost use Rattle.std.specs.Prelude.{◌≡◌, ◌<◌, ◌≤◌, length, vec_len, IfOk, IfErr};
 ghost use Rattle.rht_script.specs.Grammar.{reading_of};
 ghost use Rattle.rht_script.specs.Reading.{said_by};
+ghost use Rattle.rht_script.specs.Dealt.{dealing_of, IsDealtScript};
 ghost use Rattle.rht_script.specs.Sound.{IsSoundScript};
 ghost use Rattle.rht_check.specs.Claims.{IsSoundClaim};
 ghost use Rattle.rht_check.specs.Reading.{claim_reading_of, said_by_claim};
-ghost use Rattle.rht_cli.specs.Input.{IsRead, IsMore, IsReadFault, IsScriptRead, IsClaimRead, IsUnread};
+ghost use Rattle.rht_cli.specs.Input.{IsRead, IsMore, IsReadFault, IsScriptRead, IsDealRead, IsClaimRead, IsUnread};
 
 use crate::ending::Failure;
 use rht_check::{Claim, read_claim};
 use rht_io::Source;
-use rht_script::{MOST_BYTES, Script, read};
+use rht_script::{MOST_BYTES, Script, read, read_dealt};
 use std::alloc::{AllocError, Global};
 
 /// How many bytes are asked of the source at one time.
@@ -27,6 +28,17 @@ pub fn read_script<S: Source>(alloc: Global, source: &mut S) -> Result<Script, F
 {
     let bytes = read_all(alloc, source)?;
     Ok(read(alloc, &bytes)?)
+}
+
+/// Reads the dealt script that the input is.
+pub fn read_deal<S: Source>(alloc: Global, source: &mut S) -> Result<Script, Failure>
+    ensures read { IfOk result (λ script. IsDealRead (S.left source.old) (S.left source.new) (said_by script)) }
+    ensures dealt { IfOk result IsDealtScript }
+    ensures unread { IfErr result (IsUnread dealing_of (S.left source.old) (S.left source.new)
+        (S.faults source.old) (S.faults source.new)) }
+{
+    let bytes = read_all(alloc, source)?;
+    Ok(read_dealt(alloc, &bytes)?)
 }
 
 /// Reads the claimed history that the input is.

@@ -4,9 +4,10 @@ ghost use Rattle.std.specs.Prelude.{◌≡◌, ◌↔◌, ◌⊎◌, ℕ, None, 
 ghost use Rattle.rht_script.specs.declared.script.ScriptFault.{ScriptFault};
 ghost use Rattle.rht_script.specs.Grammar.{Said, reading_of};
 ghost use Rattle.rht_script.specs.Reading.{FirstFault};
+ghost use Rattle.rht_script.specs.Dealt.{dealing_of};
 ghost use Rattle.rht_check.specs.Reading.{SaidClaim, claim_reading_of};
 ghost use Rattle.rht_cli.specs.declared.form.Form.{Form};
-ghost use Rattle.rht_cli.specs.declared.form.Form.TheVariants.{Gen, Check};
+ghost use Rattle.rht_cli.specs.declared.form.Form.TheVariants.{Gen, Deal, Check};
 ghost use Rattle.rht_cli.specs.Forms.{form_of, ReadsScript};
 
 use crate::program::run;
@@ -16,8 +17,8 @@ use std::sync::Wait;
 use std::thread::Threads;
 
 /// The status of a run on these bytes where nothing outside can fail. A form that reads a script
-/// has 0 for a script and 2 for other bytes, or 5 where memory ran out; `check` has so for claimed
-/// histories; `gen` has 0 or 5; and where the words are no command form the status is 1.
+/// has 0 for a script and 2 for other bytes, or 5 where memory ran out; `deal` has so for dealt scripts,
+/// and `check` for claimed histories; `gen` has 0 or 5; and where the words are no command form the status is 1.
 pub fn complete<R: Threads + Wait + Sync, G: Gate + Sync>(
     rt: &R,
     alloc: Global,
@@ -31,6 +32,10 @@ pub fn complete<R: Threads + Wait + Sync, G: Gate + Sync>(
     ensures refused { (form : Form) (fault : ScriptFault)
         → form_of (map string_bytes words.now.items) ≡ Some form
         → ReadsScript form → FirstFault bytes.items fault → (result ≡ 2) ⊎ (result ≡ 5) }
+    ensures dealt { (said : Said) → form_of (map string_bytes words.now.items) ≡ Some Deal
+        → dealing_of bytes.items ≡ Ok said → (result ≡ 0) ⊎ (result ≡ 5) }
+    ensures undealt { (fault : ScriptFault) → form_of (map string_bytes words.now.items) ≡ Some Deal
+        → dealing_of bytes.items ≡ Err fault → (result ≡ 2) ⊎ (result ≡ 5) }
     ensures judged { (said : SaidClaim) → form_of (map string_bytes words.now.items) ≡ Some Check
         → claim_reading_of bytes.items ≡ Ok said → (result ≡ 0) ⊎ (result ≡ 5) }
     ensures unclaimed { (fault : ScriptFault) → form_of (map string_bytes words.now.items) ≡ Some Check

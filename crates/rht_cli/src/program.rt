@@ -1,8 +1,8 @@
 //! The top call: the program from bytes to bytes.
 //!
 //! Stands on the forms, the reader of the input, the script's writer, the registry whose workers do a
-//! script's commands on a table or which replays it, the closing of that table, the judge of claimed histories, and the
-//! endings. Begin with the clauses of `run`: they say what each status means.
+//! script's commands on a table or which replays it, the closing of that table, the dealing of a script, the judge
+//! of claimed histories, and the endings. Begin with the clauses of `run`: they say what each status means.
 
 ghost use Rattle.std.specs.Prelude.{◌≡◌, ◌≢◌, ◌≤◌, ◌↔◌, ◌⊎◌, None, Some, Option, List, ℕ, string_bytes, map, IfOk};
 ghost use Rattle.rht_io.specs.Told.{Rose, PutsLine};
@@ -12,17 +12,21 @@ ghost use Rattle.rht_script.specs.declared.script.ScriptFault.{ScriptFault};
 ghost use Rattle.rht_script.specs.Sound.{IsSoundScript};
 ghost use Rattle.rht_script.specs.Text.{fault_line};
 ghost use Rattle.rht_run.specs.ServedRuns.{tag_of, HasRun};
+ghost use Rattle.rht_script.specs.Dealt.{IsDealtScript};
 ghost use Rattle.rht_registry.specs.Players.{IsReplayed};
+ghost use Rattle.rht_deal.specs.Dealing.{IsDealing};
 ghost use Rattle.rht_cli.specs.declared.form.Form.{Form};
-ghost use Rattle.rht_cli.specs.declared.form.Form.TheVariants.{Run, Replay, Gen, Check};
+ghost use Rattle.rht_cli.specs.declared.form.Form.TheVariants.{Run, Replay, Gen, Deal, Check};
 ghost use Rattle.rht_cli.specs.Forms.{form_of, HasForm, ReadsInput, HasInput, IsFaultOf};
 ghost use Rattle.rht_cli.specs.Endings.{IsDone, IsCutShort, Serves, ServesUnread, served_by, replayed_by, ending_of, status_line};
 ghost use Rattle.rht_cli.specs.Headline.{Headline};
+ghost use Rattle.rht_cli.specs.DealHeadline.{DealHeadline};
 
 use crate::ending::{Ending, Failure};
 use crate::form::Form;
-use crate::input::{read_claimed, read_script};
+use crate::input::{read_claimed, read_deal, read_script};
 use rht_check::{check, write_verdict};
+use rht_deal::{Dealt, run_dealt, write_dealt};
 use rht_io::{Failed, Gate, Sink, Source};
 use rht_model::{Closed, Replies};
 use rht_policy::{Lookup3, Low, Mix};
@@ -55,6 +59,10 @@ pub fn run<R: Threads + Wait + Sync, S: Source, O: Sink, E: Sink, G: Gate + Sync
     // find what stays bound, and nothing is given again that an open section could reach.
     ensures headline { result ≡ 0 → form_of (map string_bytes words.now.items) ≡ Some Run
         → Headline (S.left source.old) (S.left source.new) (O.held out.old) (O.held out.new) }
+
+    // The same for a dealt script: the text is that of a run in which each command was done once, and which one legal history fits.
+    ensures dealt { result ≡ 0 → form_of (map string_bytes words.now.items) ≡ Some Deal
+        → DealHeadline (S.left source.old) (S.left source.new) (O.held out.old) (O.held out.new) }
 
     // 1: exactly where the words are no command form. Nothing is read, and nothing written to out.
     ensures usage { (result ≡ 1) ↔ (form_of (map string_bytes words.now.items) ≡ None) }
@@ -143,6 +151,7 @@ fn serve<R: Threads + Wait + Sync, S: Source, O: Sink, G: Gate + Sync>(
         Form::Run => serve_run(rt, alloc, source, out, gate),
         Form::Replay => serve_replay(alloc, source, out),
         Form::Gen { number } => serve_gen(rt, alloc, number, out, gate),
+        Form::Deal => serve_deal(rt, alloc, source, out, gate),
         Form::Check => serve_check(alloc, source, out),
     }
 }
@@ -189,6 +198,21 @@ fn serve_gen<R: Threads + Wait + Sync, O: Sink, G: Gate + Sync>(
     served_by(write_summary(out, number, &replies, &closed))
 }
 
+/// Reads a dealt script, does its commands, and prints who did each and what it was answered.
+fn serve_deal<R: Threads + Wait + Sync, S: Source, O: Sink, G: Gate + Sync>(
+    rt: &R,
+    alloc: Global,
+    source: &mut S,
+    out: &mut O,
+    gate: &G,
+) -> Result<(), Failure>
+    ensures { Serves S.left S.faults O.held O.faults Deal source.old source.new out.old out.new result }
+{
+    let script = read_deal(alloc, source)?;
+    let dealt = deal_hashed(rt, alloc, &script, gate)?;
+    served_by(write_dealt(out, &dealt))
+}
+
 /// Reads a claimed history, and prints the verdict on it.
 fn serve_check<S: Source, O: Sink>(
     alloc: Global,
@@ -211,6 +235,23 @@ fn replay_hashed<O: Sink>(alloc: Global, script: &Script, out: &mut O) -> Result
     match script.config.hash {
         Hash::Mix => replay::<Lookup3, _>(alloc, script, out),
         Hash::Low => replay::<Low, _>(alloc, script, out),
+    }
+}
+
+/// Deals a script's commands on a table whose ports are hashed as its config says. The one refusal is want
+/// of memory.
+fn deal_hashed<R: Threads + Wait + Sync, G: Gate + Sync>(
+    rt: &R,
+    alloc: Global,
+    script: &Script,
+    gate: &G,
+) -> Result<Dealt, AllocError>
+    requires { IsDealtScript script.now }
+    ensures { IfOk result (λ dealt. IsDealing script.now.config script.now.auto script.now.commands.items dealt.done.items dealt.closed) }
+{
+    match script.config.hash {
+        Hash::Mix => run_dealt::<Lookup3, _, _>(rt, alloc, script, gate),
+        Hash::Low => run_dealt::<Low, _, _>(rt, alloc, script, gate),
     }
 }
 

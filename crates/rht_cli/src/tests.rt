@@ -15,12 +15,13 @@ use std::test::Fail;
 use std::thread::Threads;
 
 mod claims;
+mod deals;
 mod growth;
 mod hostile;
 mod moves;
 mod walks;
 
-const USAGE: &str = "rht: usage: rht run | rht replay | rht gen NUMBER | rht check\n";
+const USAGE: &str = "rht: usage: rht run | rht replay | rht gen NUMBER | rht deal | rht check\n";
 
 const NO_TABLE_LINE: &str = "rht: line 1: no table line\n";
 
@@ -631,8 +632,15 @@ fn a_failing_err_changes_no_status(rt: HostRuntime) -> Result<(), Fail> {
 
 #[test]
 fn where_nothing_outside_can_fail(rt: HostRuntime) -> Result<(), Fail> {
-    let cases: [(&[&str], &str, u8); 12] = [
+    let cases: [(&[&str], &str, u8); 15] = [
         (&["run"], SCRIPT, 0),
+        (
+            &["deal"],
+            "table single workers 2\nany find 80\nany bind 80 1\n",
+            0,
+        ),
+        (&["deal"], SCRIPT, 2),
+        (&["deal", "7"], SCRIPT, 1),
         (&["check"], SCRIPT, 2),
         (&["check"], "table single\nhistory\n", 0),
         (&["check", "7"], "table single\nhistory\n", 1),

@@ -1,9 +1,10 @@
 use Rattle.std.proofs.Common.{[], Some, ap, inl, inr}
 use Rattle.rht_script.specs.Grammar.{reading_of}
+use Rattle.rht_script.specs.Dealt.{dealing_of}
 use Rattle.rht_check.specs.Reading.{claim_reading_of}
-use Rattle.rht_cli.specs.declared.form.Form.TheVariants.{Gen, Check}
+use Rattle.rht_cli.specs.declared.form.Form.TheVariants.{Gen, Deal, Check}
 use Rattle.rht_cli.proofs.ServedScripts.{never_rises}
-use Rattle.rht_cli.proofs.ToldInput.{script_bounded, claim_bounded, HasInput-script, IsFaultOf-script, HasInput-claim, IsFaultOf-claim, HasInput-gen, IsReadAs-told, IsAtFault-told}
+use Rattle.rht_cli.proofs.ToldInput.{script_bounded, deal_bounded, claim_bounded, HasInput-script, IsFaultOf-script, HasInput-deal, IsFaultOf-deal, HasInput-claim, IsFaultOf-claim, HasInput-gen, IsReadAs-told, IsAtFault-told}
 use Rattle.rht_cli.proofs.laws.complete.Goals as goal
 
 pub returns-clause-served : goal.returns-clause-served
@@ -17,6 +18,21 @@ returns-clause-refused g c form fault named reads first =
     let input = IsAtFault-told reading_of script_bounded c.args.bytes.items fault first in
     elim (c.run.ensures.refused form c.args.bytes.items input.0 fault named (ap Some c.new-source.ensures)
     (IsFaultOf-script form reads (Some c.args.bytes.items) input.0 fault input.1) never_rises) [
+      | inl two ↦ inl two.0
+      | inr memory ↦ inr memory
+    ]
+
+pub returns-clause-dealt : goal.returns-clause-dealt
+returns-clause-dealt g c said named says =
+    c.run.ensures.served Deal c.args.bytes.items (Some []) named (ap Some c.new-source.ensures)
+    (HasInput-deal (Some c.args.bytes.items) (Some []) said (IsReadAs-told dealing_of deal_bounded c.args.bytes.items said says))
+    never_rises never_rises
+
+pub returns-clause-undealt : goal.returns-clause-undealt
+returns-clause-undealt g c fault named first =
+    let input = IsAtFault-told dealing_of deal_bounded c.args.bytes.items fault first in
+    elim (c.run.ensures.refused Deal c.args.bytes.items input.0 fault named (ap Some c.new-source.ensures)
+    (IsFaultOf-deal (Some c.args.bytes.items) input.0 fault input.1) never_rises) [
       | inl two ↦ inl two.0
       | inr memory ↦ inr memory
     ]
