@@ -57,8 +57,7 @@ module _ {M : Type 0} (mix : ℕ → ℕ → ℕ → ℕ) (t : Table M) (call : 
   traced_behind Fact each earlier rest is finished =
       let events = is.in_run.events in
       let c = now.number in
-      let admitted : IsAdmitted events =
-      subst (λ (e : Env). IsAdmitted events) is.same_env is.in_run.admitted in
+      let admitted : IsAdmitted events = is.in_run.admitted in
       let shows : Shows t.env (run_of mix t.env events) (held_at c (seen_by now)) =
       subst (λ (e : Env). Shows e (run_of mix e events) (held_at c (seen_by now))) is.same_env
       (is.in_run.shows (held_at c (seen_by now)) (in_one (held_at c (seen_by now)) now.seat.me.0.held is.held)) in

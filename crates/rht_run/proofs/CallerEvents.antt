@@ -54,7 +54,7 @@ module _ (M : Type 0) (mix : ℕ → ℕ → ℕ → ℕ) (env : Env) where
       → IsInRun mix v
   in_run s r id v at same = record {
     events = r.events;
-    admitted = subst (λ (e : Env). IsAdmitted r.events) (sym same) r.admitted;
+    admitted = r.admitted;
     shows = λ h i. subst (λ (e : Env). Shows e (run_of mix e r.events) h) (sym same) (r.shows id v at h i).shows;
   }
 

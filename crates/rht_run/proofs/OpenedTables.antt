@@ -32,7 +32,7 @@ module _ {M : Type 0} where
       → IsInRun mix v → IsInRun mix w
   fewer mix v w same within run = record {
     events = run.events;
-    admitted = subst (λ (e : Env). IsAdmitted run.events) (sym same) run.admitted;
+    admitted = run.admitted;
     shows = λ h i. subst (λ (e : Env). Shows e (run_of mix e run.events) h) (sym same) (run.shows h (within h i));
   }
 

@@ -131,7 +131,7 @@ module _ {M : Type 0} where
             (is.in_run.shows held (in_one held p.seat.me.0.held is.held))
 
         admitted : IsAdmitted is.in_run.events
-        admitted = subst (λ (e : Env). IsAdmitted is.in_run.events) is.same_env is.in_run.admitted
+        admitted = is.in_run.admitted
 
         go : (begins : Option Call) → CanGo t.env p.number begins p.local
             → plan_of (local_then t.env p.number begins p.local) ≡ Some op → IsPlannedIn t.env.geometry op

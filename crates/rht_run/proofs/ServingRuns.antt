@@ -25,7 +25,7 @@ HasRun-served config auto commands endings closed served =
     let mix = mix_named config in
     let has = told M mix config auto commands endings closed served in
     let tells = has.1 in
-    let admitted = subst (λ (k : Config). IsAdmitted served.events) (sym served.config_same) served.admitted in
+    let admitted = served.admitted in
     let traced = remembers M mix served.env served.events admitted in
     record {
       served = served;
