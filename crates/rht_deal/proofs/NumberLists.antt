@@ -143,3 +143,35 @@ AllByRecursion-range first (suc count) numbers less =
         → AllByRecursion (λ number. (first ≤ number) × (number < first + suc count)) numbers
     below [] all = tt
     below (number ∷ numbers) all = ((all.0.0, (let most = all.0.1 in omega (arith, most))), below numbers all.1)
+
+-- ---- numbers among others
+
+-- a number that isn't below this one weighs 1
+abbrev from_on : ℕ → ℕ → ℕ
+from_on number n = mark (nat_lt number (n + 1))
+
+weight-below : (number : ℕ) (numbers : List ℕ) → AllByRecursion (λ n. n < number) numbers → weight (from_on number) numbers ≡ 0
+weight-below number [] below = refl
+weight-below number (n ∷ numbers) below =
+    let here : from_on number n ≡ 0 = ap mark (le-ltb number (n + 1) (let least = below.0 in omega (arith, least))) in
+    let rest = weight-below number numbers below.1 in
+    omega (arith, sum_by-cons (from_on number) n numbers, here, rest)
+
+below-weight : (number : ℕ) (numbers : List ℕ) → weight (from_on number) numbers ≡ 0 → AllByRecursion (λ n. n < number) numbers
+below-weight number [] none = tt
+below-weight number (n ∷ numbers) none =
+    let parts = sum_by-cons (from_on number) n numbers in (
+      by_test (nat_lt number (n + 1)) refl (omega (arith, parts, none)),
+      below-weight number numbers (omega (arith, parts, none)),
+    )
+  where
+    by_test : (over : Bool) → nat_lt number (n + 1) ≡ over → mark over ≡ 0 → n < number
+    by_test true is none = absurd (omega (arith, none))
+    by_test false is none = let least = ltb-false number (n + 1) is in omega (arith, least)
+
+-- numbers that are among those below a number are below it
+pub AllByRecursion-among : (number : ℕ) (these those : List ℕ) → ((h : ℕ → ℕ) → weight h these ≤ weight h those)
+    → AllByRecursion (λ n. n < number) those → AllByRecursion (λ n. n < number) these
+AllByRecursion-among number these those among below =
+    let none = weight-below number those below in
+    below-weight number these (omega (arith, none, among (from_on number)))
