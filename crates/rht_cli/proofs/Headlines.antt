@@ -19,7 +19,7 @@ use Rattle.rht_cli.specs.declared.form.Form.{Form}
 use Rattle.rht_cli.specs.declared.form.Form.TheVariants.{Run}
 use Rattle.rht_cli.specs.declared.ending.Failure.{Failure}
 use Rattle.rht_cli.specs.declared.ending.Failure.TheVariants.{Fault, Read, Write, Memory}
-use Rattle.rht_cli.specs.Endings.{Serves, ending_of, status_of}
+use Rattle.rht_cli.specs.Endings.{IsDone, Serves, ending_of, status_of}
 use Rattle.rht_cli.specs.Forms.{Prints}
 use Rattle.rht_cli.specs.Headline.{FindsAndSpares, Headline}
 
@@ -58,15 +58,23 @@ Headline-printed left left_after held held_after text printed written =
       every = λ such. finds_and_spares said.config said.auto said.commands done.endings done.closed such;
     }
 
--- which `run` has printed where it ends with status 0
+-- what a form has printed where it ends with status 0
+pub IsDone-served : {S O : Type 0} (left : S → Option (List ℕ)) (sfaults : S → ℕ) (held : O → Option (List ℕ)) (ofaults : O → ℕ)
+    (form : Form) (s s' : S) (o o' : O) (served : Result (Unit {0}) Failure)
+    → Serves left sfaults held ofaults form s s' o o' served → status_of (ending_of served) ≡ 0
+    → IsDone form (left s) (left s') (held o) (held o')
+IsDone-served left sfaults held ofaults form s s' o o' (Ok all) serves zero = serves
+IsDone-served left sfaults held ofaults form s s' o o' (Err (Fault fault)) serves zero = absurd (omega (arith, zero))
+IsDone-served left sfaults held ofaults form s s' o o' (Err Read) serves zero = absurd (omega (arith, zero))
+IsDone-served left sfaults held ofaults form s s' o o' (Err Write) serves zero = absurd (omega (arith, zero))
+IsDone-served left sfaults held ofaults form s s' o o' (Err Memory) serves zero = absurd (omega (arith, zero))
+
+-- for `run` that is the headline
 pub Headline-served : {S O : Type 0} (left : S → Option (List ℕ)) (sfaults : S → ℕ) (held : O → Option (List ℕ)) (ofaults : O → ℕ)
     (form : Form) (s s' : S) (o o' : O) (served : Result (Unit {0}) Failure)
     → Serves left sfaults held ofaults form s s' o o' served → Run ≡ form → status_of (ending_of served) ≡ 0
     → Headline (left s) (left s') (held o) (held o')
-Headline-served left sfaults held ofaults form s s' o o' (Ok all) serves is zero =
-    Headline-printed (left s) (left s') (held o) (held o') serves.text
-    (subst (λ (f : Form). Prints f (left s) (left s') serves.text) (sym is) serves.printed) serves.written
-Headline-served left sfaults held ofaults form s s' o o' (Err (Fault fault)) serves is zero = absurd (omega (arith, zero))
-Headline-served left sfaults held ofaults form s s' o o' (Err Read) serves is zero = absurd (omega (arith, zero))
-Headline-served left sfaults held ofaults form s s' o o' (Err Write) serves is zero = absurd (omega (arith, zero))
-Headline-served left sfaults held ofaults form s s' o o' (Err Memory) serves is zero = absurd (omega (arith, zero))
+Headline-served left sfaults held ofaults form s s' o o' served serves is zero =
+    let done = IsDone-served left sfaults held ofaults form s s' o o' served serves zero in
+    Headline-printed (left s) (left s') (held o) (held o') done.text
+    (subst (λ (f : Form). Prints f (left s) (left s') done.text) (sym is) done.printed) done.written

@@ -16,3 +16,5 @@ pub mod Forms
 pub mod Endings
 -- the headline
 pub mod Headline
+-- the headline for commands that any worker may do
+pub mod DealHeadline

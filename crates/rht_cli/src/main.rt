@@ -6,7 +6,8 @@
 //! Stands on `rht_script`, `rht_registry`, `rht_deal`, `rht_check` and `rht_run`, and below them on `rht_model`, `rht_policy`,
 //! `rht_words` and `rht_io`; the definitions of `rht_core` say what a run is. `program` has the top call and
 //! its theorem; `main` here only makes the real source, sinks and gate. A script's commands are done,
-//! and its schedule is replayed, by `rht_registry`, the table is closed by `rht_run`, and claims are judged by `rht_check`.
+//! and its schedule is replayed, by `rht_registry`, whose table is closed by `rht_run`; a dealt script is done by
+//! `rht_deal`, which closes its own; and claims are judged by `rht_check`.
 #![tactic(auto)]
 
 mod ending;

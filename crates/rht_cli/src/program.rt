@@ -20,6 +20,7 @@ ghost use Rattle.rht_cli.specs.declared.form.Form.TheVariants.{Run, Replay, Gen,
 ghost use Rattle.rht_cli.specs.Forms.{form_of, HasForm, ReadsInput, HasInput, IsFaultOf};
 ghost use Rattle.rht_cli.specs.Endings.{IsDone, IsCutShort, Serves, ServesUnread, served_by, replayed_by, ending_of, status_line};
 ghost use Rattle.rht_cli.specs.Headline.{Headline};
+ghost use Rattle.rht_cli.specs.DealHeadline.{DealHeadline};
 
 use crate::ending::{Ending, Failure};
 use crate::form::Form;
@@ -58,6 +59,10 @@ pub fn run<R: Threads + Wait + Sync, S: Source, O: Sink, E: Sink, G: Gate + Sync
     // find what stays bound, and nothing is given again that an open section could reach.
     ensures headline { result ≡ 0 → form_of (map string_bytes words.now.items) ≡ Some Run
         → Headline (S.left source.old) (S.left source.new) (O.held out.old) (O.held out.new) }
+
+    // The same for a dealt script: the text is that of a run in which each command was done once, and which one legal history fits.
+    ensures dealt { result ≡ 0 → form_of (map string_bytes words.now.items) ≡ Some Deal
+        → DealHeadline (S.left source.old) (S.left source.new) (O.held out.old) (O.held out.new) }
 
     // 1: exactly where the words are no command form. Nothing is read, and nothing written to out.
     ensures usage { (result ≡ 1) ↔ (form_of (map string_bytes words.now.items) ≡ None) }

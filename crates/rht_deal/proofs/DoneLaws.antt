@@ -1,19 +1,26 @@
--- What was done has the numbers of the commands, each once. So each command was done exactly once and nothing else was; and since these rise,
--- so do those of each worker.
-use Rattle.std.proofs.Common.{◌≡◌, ◌≢◌, ℕ, zero, suc, ◌+◌, ◌<◌, ◌≤◌, Bool, true, false, cond, List, [], ◌∷◌, length, refl, sym, ◌∙◌, ap, subst, arith}
+-- What was done has the numbers of the commands, each once. So each command is told exactly once and nothing else is. Since the numbers rise,
+-- so do those of each worker, whose caller has served just these commands in the run.
+use Rattle.std.proofs.Common.{◌≡◌, ◌≢◌, ℕ, zero, suc, ◌+◌, ◌<◌, ◌≤◌, Bool, true, false, cond, List, [], ◌∷◌, length, map, get_or, refl, sym, ◌∙◌, ap, subst, arith}
 use Rattle.std.specs.Prelude.{count_by, filter, ◌==◌}
 use Rattle.std.specs.List.{AllByRecursion, range_with_len}
 use Rattle.std.proofs.lemmas.Bool.{eq-eqb, ne_eqb, eqb-true, eqb-false}
+use Rattle.std.proofs.lemmas.List.{length-map}
+use Rattle.std.proofs.lemmas.List.FromFn.{length-range_with_len}
 use Rattle.std.proofs.lemmas.List.Sums.{sum_by-cons}
 use Rattle.rht_words.specs.declared.config.Config.{Config}
 use Rattle.rht_words.proofs.EachElement.{AllByRecursion-weaker}
+use Rattle.rht_policy.specs.Mix.{mix_named}
 use Rattle.rht_model.specs.declared.history.Call.{Call}
 use Rattle.rht_deal.specs.declared.dealt.Done.{Done}
-use Rattle.rht_deal.specs.DoneCommands.{numbers_of, done_by, AreAllDone}
+use Rattle.rht_core.specs.Runs.{World, run_of}
+use Rattle.rht_core.specs.Serving.{calls_of, IsServing}
+use Rattle.rht_run.specs.ServedRuns.{tag_of}
+use Rattle.rht_deal.specs.DoneCommands.{numbers_of, done_by, endings_of, all_endings, as_done, calls_at, AreAllDone}
 use Rattle.rht_deal.specs.Numbers.{numbers_to, weight, AreRising}
-use Rattle.rht_deal.specs.Laws.{DoesEachOnce, DoesNoOther, NumbersRise}
+use Rattle.rht_deal.specs.Laws.{TellsEachOnce, TellsNoOther, TellsWorkers, DoesAsTold, HistoryFits}
 use Rattle.rht_deal.proofs.NumberLists.{mark}
 use Rattle.rht_deal.proofs.DoneOrder.{here, none_above}
+use Rattle.rht_deal.proofs.WorkersDone.{calls_of-done, all_endings-at}
 
 -- ---- the numbers from one on
 
@@ -67,7 +74,7 @@ count_by-weight n (done ∷ dones) =
     as_mark true = refl
     as_mark false = refl
 
-pub each_once : DoesEachOnce
+pub each_once : TellsEachOnce
 each_once config commands dones all number first last =
     count_by-weight number dones ∙ ap (weight (here number)) all.numbers
     ∙ range_once 1 (length commands) number first (omega (arith, last))
@@ -81,7 +88,7 @@ both : (P Q : ℕ → Type 0) (numbers : List ℕ) → AllByRecursion P numbers 
 both P Q [] these those = tt
 both P Q (number ∷ numbers) these those = ((these.0, those.0), both P Q numbers these.1 those.1)
 
-pub no_other : DoesNoOther
+pub no_other : TellsNoOther
 no_other config commands dones all =
     let count = length commands in
     let least = AllByRecursion-weaker (λ number. 0 < number) (λ number. 1 ≤ number) (λ number more. omega (arith, more)) (numbers_to count)
@@ -111,7 +118,74 @@ module _ (mine : Done → Bool) where
       by_test true others = (all_kept (λ number. done.number < number) dones rising.0, others)
       by_test false others = others
 
-pub numbers_rise : NumbersRise
+numbers_rise : (config : Config) (commands : List (ℕ × Call)) (dones : List Done) → AreAllDone config commands dones → (worker : ℕ)
+    → AreRising (numbers_of (done_by worker dones))
 numbers_rise config commands dones all worker =
     rising_kept (λ (done : Done). done.worker == worker) dones
     (subst AreRising (sym all.numbers) (range_rises 1 (length commands)))
+
+pub by_workers : TellsWorkers
+by_workers config commands dones all = all.workers
+
+-- ---- in the run
+
+-- as much was done as there are commands
+AreAllDone-many : (config : Config) (commands : List (ℕ × Call)) (dones : List Done) → AreAllDone config commands dones
+    → length dones ≡ length commands
+AreAllDone-many config commands dones all =
+    sym (length-map dones (λ (d : Done). d.number)) ∙ ap length all.numbers ∙ length-range_with_len 1 (length commands)
+
+-- The run serves the commands of each worker: those are the calls of the commands with its numbers, and their endings stand at its place.
+pub as_told : DoesAsTold
+as_told config auto commands dones closed dealing caller below =
+    let M : Type 0 = tag_of config.hash in
+    let all = dealing.done in
+    let served = dealing.run.served in
+    let w : World M = run_of (mix_named config) served.env served.events in
+    let worker : ℕ = caller + 1 in
+    let many : length dones ≡ length commands =
+    AreAllDone-many config commands dones all in
+    let calls : calls_of worker (as_done dones commands) ≡ calls_at commands (numbers_of (done_by worker dones)) =
+    calls_of-done commands worker dones many (all.numbers ∙ ap (range_with_len 1) (sym many)) in
+    let endings : get_or (all_endings config.callers dones) caller [] ≡ endings_of worker dones =
+    all_endings-at config.callers caller dones below in (
+      subst (λ cs. IsServing {M = M} w auto caller cs (endings_of worker dones)) calls
+          (subst (λ es. IsServing {M = M} w auto caller (calls_of worker (as_done dones commands)) es) endings (served.each caller below)),
+      numbers_rise config commands dones all worker,
+    )
+
+pub history_fits : HistoryFits
+history_fits config auto commands dones closed dealing = (dealing.run.history, dealing.run.tells)
+
+-- ---- the script's commands
+
+-- they are the calls of all that was done, in their order
+pub as_done-calls : (dones : List Done) (commands : List (ℕ × Call)) → length dones ≡ length commands
+    → map (λ (c : ℕ × Call). c.1) (as_done dones commands) ≡ map (λ (c : ℕ × Call). c.1) commands
+as_done-calls [] [] same = refl
+as_done-calls [] (command ∷ commands) same = absurd (omega (arith, same))
+as_done-calls (done ∷ dones) [] same = absurd (omega (arith, same))
+as_done-calls (done ∷ dones) (command ∷ commands) same = ap (λ l. command.1 ∷ l) (as_done-calls dones commands (omega (arith, same)))
+
+-- and where there is one worker it did all of them
+pub as_done-of_one : (dones : List Done) (commands : List (ℕ × Call)) → length dones ≡ length commands
+    → AllByRecursion (λ (done : Done). (1 ≤ done.worker) × (done.worker ≤ 1)) dones
+    → calls_of 1 (as_done dones commands) ≡ map (λ (c : ℕ × Call). c.1) commands
+as_done-of_one [] [] same all = refl
+as_done-of_one [] (command ∷ commands) same all = absurd (omega (arith, same))
+as_done-of_one (done ∷ dones) [] same all = absurd (omega (arith, same))
+as_done-of_one (done ∷ dones) (command ∷ commands) same all =
+    let first : done.worker ≡ 1 = (let both = all.0 in omega (arith, both.0, both.1)) in
+    let rest = as_done-of_one dones commands (omega (arith, same)) all.1 in
+    ap (λ own. cond own (command.1 ∷ calls_of 1 (as_done dones commands)) (calls_of 1 (as_done dones commands))) (eq-eqb done.worker 1 first)
+    ∙ ap (λ l. command.1 ∷ l) rest
+
+-- so it is of all that was done of a script
+module _ (config : Config) (commands : List (ℕ × Call)) (dones : List Done) (all : AreAllDone config commands dones) where
+  pub AreAllDone-calls : map (λ (c : ℕ × Call). c.1) (as_done dones commands) ≡ map (λ (c : ℕ × Call). c.1) commands
+  AreAllDone-calls = as_done-calls dones commands (AreAllDone-many config commands dones all)
+
+  pub AreAllDone-of_one : config.callers ≡ 1 → calls_of 1 (as_done dones commands) ≡ map (λ (c : ℕ × Call). c.1) commands
+  AreAllDone-of_one one =
+      as_done-of_one dones commands (AreAllDone-many config commands dones all)
+      (subst (λ n. AllByRecursion (λ (done : Done). (1 ≤ done.worker) × (done.worker ≤ n)) dones) one all.workers)

@@ -1,20 +1,28 @@
-//! What follows for a script that was dealt rightly. Each function is empty, and its clause is the law. That a
-//! legal history fits the run, and what else is so of it, is said of every run that serves commands
-//! (`HasRun` of `rht_run`).
+//! What follows for a script that was dealt rightly. Each function is empty, and its clause is the law.
 
-ghost use Rattle.rht_deal.specs.Laws.{DoesEachOnce, DoesNoOther, NumbersRise};
+ghost use Rattle.rht_deal.specs.Laws.{TellsEachOnce, TellsNoOther, TellsWorkers, DoesAsTold, HistoryFits};
 
-/// Each command was done exactly once.
+/// Of each command it is told exactly once that it was done.
 pub fn each_once()
-    ensures { DoesEachOnce }
+    ensures { TellsEachOnce }
 {}
 
-/// Nothing was done that is no command.
+/// Of nothing that is no command it is told that it was done.
 pub fn no_other()
-    ensures { DoesNoOther }
+    ensures { TellsNoOther }
 {}
 
-/// Each worker did its commands in the order of their numbers.
-pub fn numbers_rise()
-    ensures { NumbersRise }
+/// Of each command it is told that a worker of the table did it.
+pub fn by_workers()
+    ensures { TellsWorkers }
+{}
+
+/// Each worker did just the commands that are told of it, in the order of their numbers, with these answers.
+pub fn as_told()
+    ensures { DoesAsTold }
+{}
+
+/// A legal history fits what was done.
+pub fn history_fits()
+    ensures { HistoryFits }
 {}

@@ -22,7 +22,7 @@ use Rattle.rht_script.specs.Grammar.{reading_of}
 use Rattle.rht_script.specs.Plain.{IsSayableCall}
 use Rattle.rht_script.specs.Reading.{said_by}
 use Rattle.rht_script.specs.Sound.{is_sound_call, has_sound_numbers}
-use Rattle.rht_script.specs.Dealt.{is_dealt_call, nobody, dealt_of, dealing_of, IsDealing, reading_as, is_dealt_command, IsDealtScript}
+use Rattle.rht_script.specs.Dealt.{is_dealt_call, nobody, dealt_of, dealing_of, SaysDealt, reading_as, is_dealt_command, IsDealtScript}
 use Rattle.rht_script.proofs.ReadLines.{IfOk-then, IfOk-cond, HoldsOfLine, reading_by_holds}
 use Rattle.rht_script.proofs.SayableScripts.{IsSettledSaid-read, call_sayable, is_sound_call-sayable, has_sound_numbers-sayable}
 
@@ -83,7 +83,7 @@ is_dealt_command-read form config command is =
     (and_from (is_dealt_call command.1) (is_sound_call config command.1) is.2
     (is_sound_call-sayable form config command.1 is.1)))
 
-pub IsDealtScript-read : (bytes : List ℕ) (script : Script) → IsDealing bytes script → IsDealtScript script
+pub IsDealtScript-read : (bytes : List ℕ) (script : Script) → SaysDealt bytes script → IsDealtScript script
 unfolding dealing_of
 IsDealtScript-read bytes script read =
     let said = said_by script in

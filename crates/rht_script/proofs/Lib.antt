@@ -32,6 +32,8 @@ pub mod DealtScripts
 pub mod GeneratedCommands
 -- inputs, and what the definitions give for them
 pub mod WorkedInputs
+-- dealt scripts, and what the definitions give for them
+pub mod WorkedDeals
 -- what is said so far, before the lines still to be read
 pub mod LinesSoFar
 -- pieces of a text that are added one after another

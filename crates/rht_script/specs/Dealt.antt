@@ -58,8 +58,8 @@ unfoldable pub dealing_of : List ℕ → Result Said ScriptFault
 dealing_of bytes = reading_by (script_by dealt_of) bytes
 
 -- the bytes are this dealt script
-abbrev pub IsDealing : List ℕ → Script → Type 0
-IsDealing bytes script = dealing_of bytes ≡ Ok (said_by script)
+abbrev pub SaysDealt : List ℕ → Script → Type 0
+SaysDealt bytes script = dealing_of bytes ≡ Ok (said_by script)
 
 -- ---- the one reader of both
 

@@ -10,7 +10,7 @@ ghost use Rattle.rht_script.specs.TableLines.{no_options, table_of, kind_of, has
 ghost use Rattle.rht_script.specs.CommandLines.{command_of, call_of, bind_of, find_of, all_of, release_of, rebind_of, bare_of, whole_walk};
 ghost use Rattle.rht_script.specs.ScheduleLines.{events_of};
 ghost use Rattle.rht_script.specs.ScriptLines.{line_of};
-ghost use Rattle.rht_script.specs.Dealt.{dealt_line, dealt_of, dealing_of, line_as, reading_as, IsDealing, IsDealtScript};
+ghost use Rattle.rht_script.specs.Dealt.{dealt_line, dealt_of, dealing_of, line_as, reading_as, SaysDealt, IsDealtScript};
 ghost use Rattle.rht_script.specs.Reading.{IsScript, IsReason, IsReasonFor, said_by};
 ghost use Rattle.rht_script.specs.Allowed.{IsAllowed, AreAllowed};
 ghost use Rattle.rht_script.specs.Sound.{IsSoundScript};
@@ -63,7 +63,7 @@ pub fn read(alloc: Global, bytes: &[u8]) -> Result<Script, ReadError>
 /// skipped is the word `any` and a command `bind`, `find`, `all`, `release`, `rebind` or `count`; another first
 /// word, or the word of another command, is an unknown one. Faults are told as `read` tells them.
 pub fn read_dealt(alloc: Global, bytes: &[u8]) -> Result<Script, ReadError>
-    ensures script { IfOk result (IsDealing bytes.now) }
+    ensures script { IfOk result (SaysDealt bytes.now) }
     ensures dealt { IfOk result IsDealtScript }
     ensures reason { IfErr result (IsReasonFor (dealing_of bytes.now)) }
 {

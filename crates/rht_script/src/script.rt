@@ -44,7 +44,8 @@ pub struct Script {
     pub auto: bool,
     /// How ports are written: 1, as one number; 2, as one number or with a net too.
     pub form: u32,
-    /// The commands in the order of their lines, each with its worker, counted from 1.
+    /// The commands in the order of their lines, each with its worker, counted from 1; in a dealt script
+    /// with 0, since they are nobody's yet.
     pub commands: Vec<(u32, Call)>,
     /// The schedule that a replay follows, in the order of its lines.
     pub schedule: Vec<Sched>,
