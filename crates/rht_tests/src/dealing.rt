@@ -12,7 +12,7 @@ use std::alloc::{AllocError, Global};
 use std::hint::spin_loop;
 use std::process::Abort;
 use std::sync::Wait;
-use std::sync::atomic::{AtomicBool, Ordering};
+use std::sync::atomic::{AtomicBool, AtomicU64, Ordering};
 use std::test::Fail;
 use std::thread::Threads;
 
@@ -50,6 +50,39 @@ fn assert_all(rt: &impl Abort, dealt: &Dealt, reply: Reply) {
     }
 }
 
+/// What tells apart who did which command, in sums over all of them.
+fn mark(worker: u32, number: u32) -> u64 {
+    let number = u64::from(number);
+    u64::from(worker).wrapping_mul(number.wrapping_mul(number))
+}
+
+/// Sums the marks of the commands that it hears of.
+#[derive(Drop)]
+struct Heard {
+    before: AtomicU64,
+    after: AtomicU64,
+}
+
+impl Gate for Heard {
+    fn before(&self, worker: u32, index: u32) {
+        self.before.fetch_add(mark(worker, index), Ordering::SeqCst);
+    }
+
+    fn after(&self, worker: u32, index: u32) {
+        self.after.fetch_add(mark(worker, index), Ordering::SeqCst);
+    }
+}
+
+/// Asserts that the gate heard of each command before it and after it, with its worker and its number.
+fn assert_heard(rt: &impl Abort, dealt: &Dealt, gate: &Heard) {
+    let mut sum = 0u64;
+    for done in &dealt.done {
+        sum = sum.wrapping_add(mark(done.worker, done.number));
+    }
+    assert_same(rt, gate.before.load(Ordering::SeqCst), sum);
+    assert_same(rt, gate.after.load(Ordering::SeqCst), sum);
+}
+
 #[test]
 fn each_command_is_done(rt: HostRuntime) -> Result<(), Fail> {
     // The table begins with 2,048 buckets, the least power of two that is no less than four thirds of 1,536.
@@ -59,8 +92,13 @@ fn each_command_is_done(rt: HostRuntime) -> Result<(), Fail> {
         let line = format!(in rt.alloc(); "any bind {port} 1\n")?;
         text.push_str(&line)?;
     }
-    let dealt = deal(&rt, rt.alloc(), &text, &NoGate)?;
+    let gate = Heard {
+        before: AtomicU64::new(0),
+        after: AtomicU64::new(0),
+    };
+    let dealt = deal(&rt, rt.alloc(), &text, &gate)?;
     assert_numbered(&rt, &dealt, 1000, 4);
+    assert_heard(&rt, &dealt, &gate);
     assert_all(&rt, &dealt, Reply::Bound { kick: false });
     assert_same(&rt, (dealt.closed.size, dealt.closed.keys), (2048, 1000));
     Ok(())
