@@ -7,11 +7,11 @@ use Rattle.rht_model.specs.declared.bindings.Closed.{Closed}
 use Rattle.rht_run.specs.ServedRuns.{tag_of}
 use Rattle.rht_script.specs.declared.script.Script.{Script}
 use Rattle.rht_script.specs.Grammar.{Said}
-use Rattle.rht_deal.specs.declared.dealt.Done.{Done}
+use Rattle.rht_script.specs.declared.done.Done.{Done}
 use Rattle.rht_deal.specs.declared.dealt.Dealt.{Dealt}
 use Rattle.rht_deal.specs.DoneCommands.{as_done, all_endings}
 use Rattle.rht_deal.specs.Dealing.{IsDealtBy, IsDealing}
-use Rattle.rht_deal.specs.Text.{dealt_text}
+use Rattle.rht_script.specs.Text.{dones_text}
 use Rattle.rht_deal.proofs.DoneLaws.{AreAllDone-calls, AreAllDone-of_one}
 use Rattle.rht_cli.specs.declared.ending.Failure.{Failure}
 use Rattle.rht_cli.specs.declared.form.Form.{Form}
@@ -34,7 +34,7 @@ IsDealing-hash hash script dealt is dealing = record {
 
 pub Prints-dealt : (left left_after : Option (List ℕ)) (said : Said) (dones : List Done) (closed : Closed)
     → IsDealRead left left_after said → IsDealing said.config said.auto said.commands dones closed
-    → Prints Deal left left_after (dealt_text dones closed)
+    → Prints Deal left left_after (dones_text dones closed)
 unfolding Prints
 Prints-dealt left left_after said dones closed read dealing = record {
   said = said;

@@ -4,10 +4,10 @@ use Rattle.std.specs.Prelude.{◌≡◌, ℕ, List, map}
 use Rattle.rht_model.specs.declared.bindings.Closed.{Closed}
 use Rattle.rht_core.specs.Serving.{calls_of}
 use Rattle.rht_script.specs.Grammar.{Said}
-use Rattle.rht_deal.specs.declared.dealt.Done.{Done}
+use Rattle.rht_script.specs.declared.done.Done.{Done}
 use Rattle.rht_deal.specs.DoneCommands.{as_done}
 use Rattle.rht_deal.specs.Dealing.{IsDealing}
-use Rattle.rht_deal.specs.Text.{dealt_text}
+use Rattle.rht_script.specs.Text.{dones_text}
 
 -- The text is what is printed of a script that says this, which was dealt rightly.
 pub record IsDealText (said : Said) (text : List ℕ) : Type 0 where
@@ -20,4 +20,4 @@ pub record IsDealText (said : Said) (text : List ℕ) : Type 0 where
   pub same_calls : map (λ command. command.1) (as_done dones said.commands) ≡ map (λ command. command.1) said.commands
   pub in_script_order : said.config.callers ≡ 1 → calls_of 1 (as_done dones said.commands) ≡ map (λ command. command.1) said.commands
   -- and that is what is printed
-  pub written : text ≡ dealt_text dones closed
+  pub written : text ≡ dones_text dones closed

@@ -11,7 +11,7 @@ use Rattle.rht_words.specs.declared.config.Config.{Config}
 use Rattle.rht_words.proofs.EachElement.{AllByRecursion-weaker}
 use Rattle.rht_policy.specs.Mix.{mix_named}
 use Rattle.rht_model.specs.declared.history.Call.{Call}
-use Rattle.rht_deal.specs.declared.dealt.Done.{Done}
+use Rattle.rht_script.specs.declared.done.Done.{Done}
 use Rattle.rht_core.specs.Runs.{World, run_of}
 use Rattle.rht_core.specs.Serving.{calls_of, IsServing}
 use Rattle.rht_run.specs.ServedRuns.{tag_of}

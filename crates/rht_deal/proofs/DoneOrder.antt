@@ -9,7 +9,7 @@ use Rattle.std.proofs.lemmas.List.{append-nil, get_or-set_same, get_or-set_other
 use Rattle.std.proofs.lemmas.List.Elements.{filter-append}
 use Rattle.std.proofs.lemmas.List.Sums.{sum_by-cons, sum_by-set, get_or-le-sum_by}
 use Rattle.rht_words.proofs.EachElement.{AllByRecursion-weaker}
-use Rattle.rht_deal.specs.declared.dealt.Done.{Done}
+use Rattle.rht_script.specs.declared.done.Done.{Done}
 use Rattle.rht_deal.specs.DoneCommands.{numbers_of, done_by}
 use Rattle.rht_deal.specs.Numbers.{numbers_to, weight, AreRising}
 use Rattle.rht_deal.specs.Ordering.{BeginsWith, TakesFrom, AreOwn, AreEachOnce}

@@ -2,18 +2,19 @@
 -- workers have done. So where it finds the queue empty at last, each number was done once.
 use Rattle.std.proofs.Common.{◌≡◌, ℕ, zero, suc, ◌+◌, List, [], ◌∷◌, ◌++◌, length, map, refl, sym, ◌∙◌, ap, subst, arith}
 use Rattle.std.specs.Prelude.{fold, sum_by, Option, Result, Ok, IfOk}
-use Rattle.std.proofs.lemmas.List.Sums.{sum_by-cons, sum_by-append}
+use Rattle.std.proofs.lemmas.List.{map_push}
+use Rattle.std.proofs.lemmas.List.Sums.{sum_by-cons, sum_by-append, fold-append}
 use Rattle.crossbeam_queue.specs.declared.array_queue.Doing.{Doing}
 use Rattle.crossbeam_queue.specs.declared.array_queue.Slotted.{Slotted}
 use Rattle.crossbeam_queue.specs.Passes.{Pass, view}
 use Rattle.rht_run.specs.declared.table.Table.{Table}
 use Rattle.rht_script.specs.declared.script.Script.{Script}
-use Rattle.rht_deal.specs.declared.dealt.Done.{Done}
+use Rattle.rht_script.specs.declared.done.Done.{Done}
 use Rattle.rht_deal.specs.declared.numbers.Hand.{Hand}
 use Rattle.rht_deal.specs.declared.worker.Worker.{Worker}
 use Rattle.rht_deal.specs.DoneCommands.{numbers_of}
 use Rattle.rht_deal.specs.Numbers.{hand, all_parts, numbers_to, weight, joined, HasAll}
-use Rattle.rht_deal.specs.Workers.{AreWorking, HasWorked, HaveWorked, HaveDoneAll, HasTaken, weight_of_all}
+use Rattle.rht_deal.specs.Workers.{AreWorking, HasWorked, HaveWorked, HaveDoneAll, HasTaken, HasGathered, IsWorking, AreAmong, weight_of_all}
 
 module _ {M : Type 0} where
   abbrev Job : Type 0
@@ -26,8 +27,26 @@ module _ {M : Type 0} where
   abbrev workers_of : List Job → List (Worker M)
   workers_of jobs = map (λ (job : Job). job.0) jobs
 
+  -- ---- the workers, one after another
+
+  module _ {E : Type 0} where
+    pub HasGathered-none : (old : Hand) → HasGathered {E = E} [] [] old old
+    HasGathered-none old = record { jobs = []; all = refl; workers_are = refl; hand_is = refl }
+
+    pub HasGathered-push : (left : List (Result Job E)) (workers : List (Worker M)) (old new : Hand) (worked : Result Job E) (job : Job)
+        (after : Hand) → HasGathered left workers old new → worked ≡ Ok job → after ≡ joined new (view job.1)
+        → HasGathered (left ++ worked ∷ []) (workers ++ job.0 ∷ []) old after
+    HasGathered-push left workers old new worked job after so is joins = record {
+      jobs = so.jobs ++ job ∷ [];
+      all = ap (λ l. l ++ worked ∷ []) so.all ∙ ap (λ w. map Ok so.jobs ++ w ∷ []) is ∙ sym (map_push Ok so.jobs job);
+      workers_are = ap (λ l. l ++ job.0 ∷ []) so.workers_are ∙ sym (map_push (λ (j : Job). j.0) so.jobs job);
+      hand_is =
+          joins ∙ ap (λ v. joined v (view job.1)) so.hand_is
+          ∙ sym (fold-append (λ v (j : Job). joined v (view j.1)) old so.jobs (job ∷ []));
+    }
+
   -- it has their parts and what they have taken
-  record HasJoined (old new : Hand) (workers : List (Worker M)) : Type 0 where
+  pub record HasJoined (old new : Hand) (workers : List (Worker M)) : Type 0 where
     pub parts : new.parts ≡ old.parts + length workers
     pub pushed : new.pushed ≡ old.pushed
     pub taken : (h : ℕ → ℕ) → weight h new.taken ≡ weight h old.taken + weight_of_all h workers
@@ -81,3 +100,11 @@ module _ {M : Type 0} where
       let taken : weight h dealer.taken ≡ weight h new.taken + weight h takes.more =
       ap (λ (v : Hand). weight h v.taken) takes.taken ∙ sum_by-append h new.taken takes.more in
       omega (arith, whole, before, empty, done, taken, sum_by-cons f first others, sum_by-cons f after others)
+
+  -- what the first has done is among what was taken in
+  pub AreAmong-first : (first : Worker M) (others : List (Worker M)) (old new : Hand) → HasJoined old new (first ∷ others)
+      → AreAmong (numbers_of first.done.items) new.taken
+  AreAmong-first first others old new joins h =
+      let f : Worker M → ℕ = λ w. weight h (numbers_of w.done.items) in
+      let taken = joins.taken h in
+      omega (arith, taken, sum_by-cons f first others)

@@ -8,6 +8,10 @@ pub mod TakenOut
 pub mod DoneOrder
 -- a worker that does a command more
 pub mod ServedAnswers
+-- a worker that takes numbers, one after another
+pub mod WorkSteps
+-- lists of workers that are ready, or have worked
+pub mod ReadyWorkers
 -- what the dealer's pass of the queue has taken in
 pub mod Gathering
 -- from what all workers have done to what was dealt

@@ -22,7 +22,7 @@ use Rattle.rht_run.proofs.CallSteps.{answers}
 use Rattle.rht_run.proofs.ServedWorkers.{HasServedCalls-more}
 use Rattle.rht_script.specs.declared.script.Script.{Script}
 use Rattle.rht_script.specs.Dealt.{is_dealt_call}
-use Rattle.rht_deal.specs.declared.dealt.Done.{Done}
+use Rattle.rht_script.specs.declared.done.Done.{Done}
 use Rattle.rht_deal.specs.declared.worker.Worker.{Worker}
 use Rattle.rht_deal.specs.DoneCommands.{ending_of, numbers_of, calls_at}
 use Rattle.rht_deal.specs.Numbers.{AreRising}

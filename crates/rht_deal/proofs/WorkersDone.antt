@@ -14,7 +14,7 @@ use Rattle.rht_run.specs.declared.pass.Pass.{Pass}
 use Rattle.rht_run.specs.declared.table.Table.{Table}
 use Rattle.rht_run.specs.Workers.{HasServedCalls, HaveServedAll}
 use Rattle.rht_script.specs.declared.script.Script.{Script}
-use Rattle.rht_deal.specs.declared.dealt.Done.{Done}
+use Rattle.rht_script.specs.declared.done.Done.{Done}
 use Rattle.rht_deal.specs.declared.worker.Worker.{Worker}
 use Rattle.rht_deal.specs.DoneCommands.{ending_of, numbers_of, done_by, endings_of, all_endings, as_done, calls_at}
 use Rattle.rht_deal.specs.Numbers.{numbers_to, weight}

@@ -8,7 +8,7 @@ use Rattle.rht_model.specs.declared.history.Call.{Call}
 use Rattle.rht_core.specs.Serving.{IsServedRun}
 use Rattle.rht_run.specs.ServedRuns.{HasRun}
 use Rattle.rht_script.specs.declared.script.Script.{Script}
-use Rattle.rht_deal.specs.declared.dealt.Done.{Done}
+use Rattle.rht_script.specs.declared.done.Done.{Done}
 use Rattle.rht_deal.specs.declared.dealt.Dealt.{Dealt}
 use Rattle.rht_deal.specs.DoneCommands.{as_done, all_endings, AreAllDone}
 

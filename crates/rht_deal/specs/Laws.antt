@@ -10,7 +10,7 @@ use Rattle.rht_core.specs.Runs.{run_of}
 use Rattle.rht_core.specs.Serving.{IsServing}
 use Rattle.rht_core.specs.ToldHistories.{TellsOf}
 use Rattle.rht_run.specs.ServedRuns.{tag_of}
-use Rattle.rht_deal.specs.declared.dealt.Done.{Done}
+use Rattle.rht_script.specs.declared.done.Done.{Done}
 use Rattle.rht_deal.specs.DoneCommands.{numbers_of, done_by, endings_of, calls_at, AreAllDone}
 use Rattle.rht_deal.specs.Dealing.{IsDealing}
 use Rattle.rht_deal.specs.Numbers.{AreRising}

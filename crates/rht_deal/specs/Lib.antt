@@ -8,7 +8,5 @@ pub mod Dealing
 pub mod Workers
 -- what workers have done, from which the next command is taken out
 pub mod Ordering
--- the text of what was dealt
-pub mod Text
 -- what follows in the words of commands and workers
 pub mod Laws

@@ -5,6 +5,7 @@
 //! `ordering`.
 
 ghost use Rattle.std.specs.Prelude.{◌≡◌, ◌+◌, ◌<◌, ◌≤◌, IfOk, vec_len, length};
+ghost use Rattle.std.specs.List.{AllByRecursion};
 ghost use Rattle.crossbeam_queue.specs.Passes.{view, IsPassOf};
 ghost use Rattle.rht_policy.specs.Mix.{mix_named};
 ghost use Rattle.rht_run.specs.Passes.{AreNew};
@@ -14,14 +15,14 @@ ghost use Rattle.rht_deal.specs.Numbers.{hand, all_parts};
 ghost use Rattle.rht_deal.specs.Workers.{CanDeal, IsReady, HasWorked, AreWorking, HaveDoneAll, AreReady, HaveWorked, IsDealer, HasGathered, passes_of, kept_of};
 ghost use Rattle.rht_deal.specs.Ordering.{kept_items};
 
-use crate::dealt::{Dealt, Done};
+use crate::dealt::Dealt;
 use crate::numbers::{NumberPass, Numbers, filled, join, share};
 use crate::ordering::in_order;
 use crate::worker::{Deal, Worker};
 use rht_io::Gate;
 use rht_policy::Mix;
 use rht_run::{Pass, Table};
-use rht_script::Script;
+use rht_script::{Done, Script};
 use std::alloc::{AllocError, Global};
 use std::collections::VecDeque;
 use std::sync::Wait;
@@ -159,6 +160,7 @@ fn gathered<M: Mix>(
     dealer: &mut NumberPass,
     left: Vec<Result<(Worker<M>, NumberPass), AllocError>>,
 ) -> Result<Vec<Worker<M>>, AllocError>
+    requires left { AllByRecursion (λ worked. IfOk worked (λ job. IsPassOf queue.now job.1)) left.items }
     requires dealer { IsPassOf queue.now dealer.old }
     requires part { 0 < (view dealer.old).parts }
     ensures dealer { IsPassOf queue.now dealer.new }

@@ -6,7 +6,7 @@ ghost use Rattle.rht_deal.specs.DoneCommands.{numbers_of, done_by};
 ghost use Rattle.rht_deal.specs.Numbers.{numbers_to};
 ghost use Rattle.rht_deal.specs.Ordering.{kept_items, BeginsWith, TakesOut, AreOwn, AreEachOnce};
 
-use crate::dealt::Done;
+use rht_script::Done;
 use std::alloc::{AllocError, Global};
 use std::collections::VecDeque;
 

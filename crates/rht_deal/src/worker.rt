@@ -8,13 +8,12 @@ ghost use Rattle.rht_deal.specs.DoneCommands.{numbers_of};
 ghost use Rattle.rht_deal.specs.Numbers.{HasAll};
 ghost use Rattle.rht_deal.specs.Workers.{CanDeal, IsWorking, AreAmong, HasTaken};
 
-use crate::dealt::Done;
 use crate::numbers::{NumberPass, Numbers, next};
 use rht_io::Gate;
 use rht_model::{Owners, Reply};
 use rht_policy::Mix;
 use rht_run::{Pass, Table};
-use rht_script::Script;
+use rht_script::{Done, Script};
 use std::alloc::{AllocError, Global};
 use std::collections::VecDeque;
 use std::sync::Wait;

@@ -5,6 +5,7 @@ use Rattle.rht_model.specs.declared.history.Cursor.{Cursor}
 use Rattle.rht_model.specs.declared.bindings.Closed.{Closed}
 use Rattle.rht_model.specs.Multimap.{Port}
 use Rattle.rht_model.specs.Endings.{Ending}
+use Rattle.rht_script.specs.declared.done.Done.{Done}
 use Rattle.rht_script.specs.declared.script.ScriptFault.{ScriptFault}
 use Rattle.rht_script.specs.PortWords.{port_text}
 use Rattle.rht_model.specs.declared.history.Reply.{Reply}
@@ -63,9 +64,9 @@ abbrev pub reply_line : ℕ → Reply → List ℕ → List (Port × ℕ) → Bo
 reply_line worker reply owners pairs kicks =
     decimal worker ++ codes ": " ++ reply_text reply owners pairs kicks ++ codes "\n"
 
--- the reply line of a command that has a number, which comes before its worker's; a kick isn't shown
-abbrev pub numbered_line : ℕ → ℕ → Reply → List ℕ → List ℕ
-numbered_line number worker reply owners = decimal number ++ codes " " ++ reply_line worker reply owners [] false
+-- the line of a command that was done: its number, its worker, and the reply; a kick isn't shown
+abbrev pub done_line : Done → List ℕ
+done_line done = decimal done.number ++ codes " " ++ reply_line done.worker done.reply done.owners [] false
 
 -- the line of a bound port: its owners, the first one first
 abbrev pub port_line : Port × List ℕ → List ℕ
@@ -78,6 +79,10 @@ last_line size keys = named (codes "size") size ++ named (codes " keys") keys ++
 -- the lines of the last bindings: a line for each port, and the last line
 abbrev pub closed_text : Closed → List ℕ
 closed_text closed = flat_map port_line closed.bindings.pairs ++ last_line closed.size closed.keys
+
+-- the text of commands that were done, in this order, and of what is bound at the end
+abbrev pub dones_text : List Done → Closed → List ℕ
+dones_text dones closed = flat_map done_line dones ++ closed_text closed
 
 -- the line of a worker's command that ended so
 abbrev pub ending_line : ℕ → Ending → List ℕ

@@ -2,14 +2,15 @@
 //!
 //! Stands on `rht_model`, `rht_words` and `rht_io`. The program reads a script's bytes by `read`, a dealt
 //! script's by `read_dealt`, or makes one from a number by `generated`, and writes the text of a run by
-//! `write_run`; `write_reply`, `write_numbered`, `write_closed` and `write_fault` write parts of such text. Programs with lines of
-//! their own go over them by `Lines` and `Words`, or by `line_end` and `word_at`. They read single
+//! `write_run`, or by `write_dones` that of a dealt script; `write_reply`, `write_done`, `write_closed` and
+//! `write_fault` write parts of such text. Programs with lines of their own go over them by `Lines` and `Words`, or by `line_end` and `word_at`. They read single
 //! lines and words by `table_line`, `command_line`, `number_of` and `port_word`, and write by
 //! `write_number`, `write_port` and `write_ports`.
 //! Read `specs/Grammar.antt` and `specs/Text.antt` first.
 #![tactic(auto)]
 
 mod cause;
+mod done;
 mod generator;
 pub mod laws;
 mod options;
@@ -18,6 +19,7 @@ mod script;
 mod writer;
 
 pub use cause::{Cause, at_line};
+pub use done::Done;
 pub use generator::generated;
 pub use reader::{
     Lines, MOST_BYTES, Words, command_line, line_end, number_of, port_word, read, read_dealt,
@@ -25,6 +27,6 @@ pub use reader::{
 };
 pub use script::{ReadError, Sched, Script, ScriptFault, TableLine};
 pub use writer::{
-    write_closed, write_fault, write_number, write_numbered, write_open, write_operation,
+    write_closed, write_done, write_dones, write_fault, write_number, write_open, write_operation,
     write_port, write_ports, write_reply, write_run, write_size, write_summary,
 };

@@ -7,7 +7,7 @@ ghost use Rattle.std.specs.Prelude.{◌≡◌, ◌≤◌, ◌+◌, ◌++◌, len
 ghost use Rattle.std.specs.List.{enumerate_from};
 ghost use Rattle.rht_io.specs.Told.{Puts};
 ghost use Rattle.rht_script.specs.PortWords.{port_text};
-ghost use Rattle.rht_script.specs.Text.{pair_text, owners_text, walk_end, reply_text, reply_line, numbered_line, port_line, last_line, closed_text, worker_text, ending_line, run_text, cause_text, fault_line};
+ghost use Rattle.rht_script.specs.Text.{pair_text, owners_text, walk_end, reply_text, reply_line, done_line, dones_text, port_line, last_line, closed_text, worker_text, ending_line, run_text, cause_text, fault_line};
 ghost use Rattle.rht_script.specs.Writing.{Adds};
 
 mod buffer;
@@ -18,6 +18,7 @@ mod summary;
 pub use self::operations::{write_open, write_operation, write_size};
 use self::pieces::Writer;
 pub use self::summary::write_summary;
+use crate::done::Done;
 use crate::script::ScriptFault;
 use itoa::Buffer;
 use rht_io::{Failed, Sink, put_all};
@@ -44,22 +45,55 @@ pub fn write_reply<O: Sink>(
     text.put()
 }
 
-/// Writes the reply line of a command that has a number: the number, and then the line of its worker,
-/// with the list of owners that comes beside the reply. A kick isn't shown.
-pub fn write_numbered<O: Sink>(
-    out: &mut O,
-    number: u32,
-    worker: u32,
-    reply: Reply,
-    owners: &[u32],
-) -> Result<(), Failed>
-    ensures { Puts O.held O.faults out.old out.new result (numbered_line number worker reply owners.now) }
+/// Writes the line of a command that was done: its number, its worker, and the reply, with the owners that
+/// came with it. A kick isn't shown. It takes no memory.
+pub fn write_done<O: Sink>(out: &mut O, done: &Done) -> Result<(), Failed>
+    ensures { Puts O.held O.faults out.old out.new result (done_line done.now) }
 {
     let mut text = Writer::new(out);
-    text.add_number(number.into())?;
-    text.add(b" ")?;
-    add_reply(&mut text, worker.into(), reply, owners, &[], false)?;
+    add_done(&mut text, done)?;
     text.put()
+}
+
+/// Writes the lines of commands that were done, in this order, and then those of what is bound at the end.
+/// It takes no memory.
+pub fn write_dones<O: Sink>(out: &mut O, dones: &[Done], closed: &Closed) -> Result<(), Failed>
+    ensures { Puts O.held O.faults out.old out.new result (dones_text dones.now closed.now) }
+{
+    let mut text = Writer::new(out);
+    add_dones(&mut text, dones)?;
+    add_closed(&mut text, closed)?;
+    text.put()
+}
+
+/// Adds the lines of commands that were done.
+fn add_dones<O: Sink>(text: &mut Writer<'_, O>, dones: &[Done]) -> Result<(), Failed>
+    ensures text { Adds O.held O.faults text.old.out.now text.new.out.now result
+        text.old.waiting text.new.waiting (flat_map done_line dones.now) }
+    ensures same_sink { text.new.out.ghost_name ≡ text.old.out.ghost_name }
+{
+    for i in 0..dones.len() {
+        add_done(text, &dones[i])?;
+    }
+    Ok(())
+}
+
+/// Adds the line of a command that was done.
+fn add_done<O: Sink>(text: &mut Writer<'_, O>, done: &Done) -> Result<(), Failed>
+    ensures text { Adds O.held O.faults text.old.out.now text.new.out.now result
+        text.old.waiting text.new.waiting (done_line done.now) }
+    ensures same_sink { text.new.out.ghost_name ≡ text.old.out.ghost_name }
+{
+    text.add_number(done.number.into())?;
+    text.add(b" ")?;
+    add_reply(
+        text,
+        done.worker.into(),
+        done.reply,
+        done.owners.as_slice(),
+        &[],
+        false,
+    )
 }
 
 /// Adds a reply line.

@@ -1,7 +1,7 @@
 use Rattle.std.proofs.lemmas.Result.{err_from_is_err_and}
 use Rattle.rht_script.specs.Dealt.{dealing_of}
 use Rattle.rht_script.specs.Reading.{said_by}
-use Rattle.rht_deal.specs.Text.{dealt_text}
+use Rattle.rht_script.specs.Text.{dones_text}
 use Rattle.rht_cli.specs.declared.form.Form.TheVariants.{Deal}
 use Rattle.rht_cli.proofs.ToldInput.{IsFaultOf-deal}
 use Rattle.rht_cli.proofs.DealTexts.{Prints-dealt}
@@ -23,6 +23,6 @@ returns g c =
     let dealt = c.in_ok-dealt.dealt in
     rw c.served_by.ensures
     (Serves-put left g.S.Source.faults g.O.Sink.held g.O.Sink.faults Deal c.args.source.now
-    c.read_deal.new.source c.args.out.now c.write_dealt.new.out (dealt_text dealt.done.items dealt.closed) c.write_dealt.result
+    c.read_deal.new.source c.args.out.now c.write_dealt.new.out (dones_text dealt.done.items dealt.closed) c.write_dealt.result
     (Prints-dealt (left c.args.source.now) (left c.read_deal.new.source) (said_by script) dealt.done.items dealt.closed
     c.in_ok-script.ensures.read c.in_ok-dealt.ensures) c.write_dealt.ensures)

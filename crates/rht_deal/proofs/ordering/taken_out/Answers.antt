@@ -3,7 +3,7 @@ use Rattle.std.specs.Prelude.{MatchOption}
 use Rattle.std.specs.declared.alloc.Global.{Global}
 use Rattle.std.specs.declared.collections.VecDeque.{VecDeque}
 use Rattle.std.proofs.lemmas.List.{length-map, get_or-map}
-use Rattle.rht_deal.specs.declared.dealt.Done.{Done}
+use Rattle.rht_script.specs.declared.done.Done.{Done}
 use Rattle.rht_deal.specs.Ordering.{kept_items, BeginsWith, TakesOut}
 use Rattle.rht_deal.proofs.TakenOut.{map-set, TakesOut-at, none-more}
 use Rattle.rht_deal.proofs.ordering.taken_out.Goals as goal
