@@ -30,10 +30,11 @@ use std::thread;
 use std::thread::Threads;
 
 /// Opens a table, and has its workers do the commands of a dealt script: each has a pass and, where threads
-/// can be started, a thread, and does whichever command is next until none is left. The gate hears of each
-/// command before it and after it, with its worker and its number. What is left behind the threads is done
-/// by worker 1. The one refusal is want of memory, and then the table is given up. Room for the answers is
-/// made before a worker starts; the owners that come with one take more once its call has ended.
+/// can be started, a thread, and does whichever command is next until none is left. What is left behind the
+/// threads is done by worker 1. The one refusal is want of memory, and then the table is given up. Room for
+/// the answers is made before a worker starts; the owners that come with one take more once its call has
+/// ended. The gate hears of each command before it, with its worker and its number, and after it unless memory
+/// was refused for what it was answered.
 pub fn run_dealt<M: Mix + Send, R: Threads + Wait + Sync, G: Gate + Sync>(
     rt: &R,
     alloc: Global,
