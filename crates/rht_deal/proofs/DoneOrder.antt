@@ -8,7 +8,7 @@ use Rattle.std.proofs.lemmas.Bool.{cases_Bool, eq-eqb, ne_eqb, eqb-true, eqb-fal
 use Rattle.std.proofs.lemmas.List.{append-nil, get_or-set_same, get_or-set_other, map_push}
 use Rattle.std.proofs.lemmas.List.Elements.{filter-append}
 use Rattle.std.proofs.lemmas.List.Sums.{sum_by-cons, sum_by-set, get_or-le-sum_by}
-use Rattle.rht_words.proofs.EachElement.{AllByRecursion-weaker}
+use Rattle.rht_words.proofs.EachElement.{AllByRecursion-push, AllByRecursion-weaker}
 use Rattle.rht_script.specs.declared.done.Done.{Done}
 use Rattle.rht_deal.specs.DoneCommands.{numbers_of, done_by}
 use Rattle.rht_deal.specs.Numbers.{numbers_to, weight, AreRising}
@@ -107,6 +107,7 @@ pub record InOrder (count : ℕ) (all kept : List (List Done)) (dones : List Don
   pub once : (h : ℕ → ℕ) → weight h (range_with_len (i + 1) (count - i)) ≡ sum_by (own_weight h) kept
   pub own : AreOwn 1 kept
   pub many : length kept ≡ length all
+  pub workers : AllByRecursion (λ (done : Done). (1 ≤ done.worker) × (done.worker ≤ length all)) dones
   pub whole : (j : ℕ) → j < length all → done_by (j + 1) dones ++ get_or kept j [] ≡ get_or all j []
 
 pub InOrder-none : (count : ℕ) (all : List (List Done)) → AreOwn 1 all → AreEachOnce count all → InOrder count all all [] 0
@@ -117,6 +118,7 @@ InOrder-none count all own once = record {
       ap (λ n. weight h (range_with_len 1 n)) (sym all_left) ∙ once h);
   own = own;
   many = refl;
+  workers = tt;
   whole = λ j below. refl;
 }
 
@@ -178,6 +180,9 @@ module _ (count : ℕ) (all kept after : List (List Done)) (dones : List Done) (
         omega (arith, before, range, changed, first, same);
     own = subst (AreOwn 1) (sym takes.after_is) (AreOwn-taken 1 kept place done takes.rest so.own takes.within takes.first).1;
     many = ap length takes.after_is ∙ length-set kept place takes.rest ∙ so.many;
+    workers =
+        AllByRecursion-push (λ (d : Done). (1 ≤ d.worker) × (d.worker ≤ length all)) dones done so.workers
+        (let within = takes.within in let many = so.many in (omega (arith, its_worker), omega (arith, its_worker, within, many)));
     whole = each;
   }
 

@@ -24,7 +24,7 @@ module _ {M : Type 0} where
   abbrev after_joins : Hand → List Job → Hand
   after_joins old jobs = fold (λ v (job : Job). joined v (view job.1)) old jobs
 
-  abbrev workers_of : List Job → List (Worker M)
+  abbrev pub workers_of : List Job → List (Worker M)
   workers_of jobs = map (λ (job : Job). job.0) jobs
 
   -- ---- the workers, one after another

@@ -16,5 +16,7 @@ pub mod ReadyWorkers
 pub mod Gathering
 -- from what all workers have done to what was dealt
 pub mod WorkersDone
+-- the first worker does what is left
+pub mod FirstWorker
 -- what follows for what was done, in the words of commands and workers
 pub mod DoneLaws

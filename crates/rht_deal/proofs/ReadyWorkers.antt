@@ -12,6 +12,13 @@ use Rattle.rht_deal.specs.declared.numbers.Hand.{Hand}
 use Rattle.rht_deal.specs.declared.worker.Worker.{Worker}
 use Rattle.rht_deal.specs.Workers.{IsReady, HasWorked, AreReady, HaveWorked}
 
+-- what is so of all is so of the one at a place
+pub EachElement-at : {X : Type 0} (P : X → Type 0) (xs : List X) (i : ℕ) (default : X) → AllByRecursion P xs → i < length xs
+    → P (get_or xs i default)
+EachElement-at P [] i default all below = absurd (omega (arith, below))
+EachElement-at P (x ∷ xs) zero default all below = all.0
+EachElement-at P (x ∷ xs) (suc i) default all below = EachElement-at P xs i default all.1 (omega (arith, below))
+
 module _ {M Q A : Type 0} (mix : ℕ → ℕ → ℕ → ℕ) (t : Table M) (queue : Slotted (Option ℕ) (Doing ℕ Hand) Q A) (script : Script) where
   abbrev Job : Type 0
   Job = Worker M × Pass ℕ Hand

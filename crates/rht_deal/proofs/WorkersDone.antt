@@ -81,7 +81,7 @@ length-all_endings workers dones = length-map-range_with_len (λ worker. endings
 
 module _ {M : Type 0} (mix : ℕ → ℕ → ℕ → ℕ) (t : Table M) (script : Script) where
   -- a worker at its place is the one of that number
-  AreWorking-at : (number : ℕ) (workers : List (Worker M)) (i : ℕ) (default : Worker M) → AreWorking mix t script number workers
+  pub AreWorking-at : (number : ℕ) (workers : List (Worker M)) (i : ℕ) (default : Worker M) → AreWorking mix t script number workers
       → i < length workers
       → IsWorking mix t script (get_or workers i default) × ((get_or workers i default).number ≡ number + i)
   AreWorking-at number [] i default all below = absurd (omega (arith, below))

@@ -1,7 +1,8 @@
 //! What all workers have done, put in the order of the commands. Each has done its own in rising order,
 //! so the next one is always the first that one of them has left.
 
-ghost use Rattle.std.specs.Prelude.{◌≡◌, ◌+◌, ◌<◌, ◌^◌, ◌↔◌, ℕ, [], IfOk, IsTrue, slice_index_or, vec_len};
+ghost use Rattle.std.specs.Prelude.{◌≡◌, ◌+◌, ◌<◌, ◌≤◌, ◌^◌, ◌↔◌, ℕ, [], IfOk, IsTrue, slice_index_or, vec_len};
+ghost use Rattle.std.specs.List.{AllByRecursion};
 ghost use Rattle.rht_deal.specs.DoneCommands.{numbers_of, done_by};
 ghost use Rattle.rht_deal.specs.Numbers.{numbers_to};
 ghost use Rattle.rht_deal.specs.Ordering.{kept_items, BeginsWith, TakesOut, AreOwn, AreEachOnce};
@@ -21,6 +22,7 @@ pub fn in_order(
     requires own { AreOwn 1 (kept_items kept) }
     requires once { AreEachOnce count (kept_items kept) }
     ensures numbers { IfOk result (λ done. numbers_of done.items ≡ numbers_to count) }
+    ensures workers { IfOk result (λ done. AllByRecursion (λ one. (1 ≤ one.worker) × (one.worker ≤ vec_len kept)) done.items) }
     ensures own { IfOk result (λ done. (i : ℕ) → i < vec_len kept
         → done_by (i + 1) done.items ≡ slice_index_or (kept_items kept) i []) }
 {

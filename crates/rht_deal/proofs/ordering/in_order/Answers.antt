@@ -1,4 +1,5 @@
-use Rattle.std.proofs.Common.{◌≡◌, ◌+◌, ◌-◌, ◌<◌, List, length, sym, subst, arith}
+use Rattle.std.proofs.Common.{◌≡◌, ◌+◌, ◌-◌, ◌<◌, ◌≤◌, List, length, sym, ◌∙◌, subst, arith}
+use Rattle.std.specs.List.{AllByRecursion}
 use Rattle.std.specs.declared.alloc.Global.{Global}
 use Rattle.std.specs.declared.collections.VecDeque.{VecDeque}
 use Rattle.std.proofs.lemmas.List.{length-map}
@@ -19,6 +20,12 @@ loop-i-preserved c =
     subst (λ dones. InOrder c.args.count (kept_items c.args.kept) after dones (c.loop-i.i + 1)) (sym c.in_ok-push.ensures.items)
     (InOrder-more c.args.count (kept_items c.args.kept) (kept_items c.loop-i.kept) after c.loop-i.done.items c.loop-i.i c.loop-i.invariant
     c.in-Some.next c.in-Some.ensures c.loop-i-test.true)
+
+pub returns-clause-workers : goal.returns-clause-workers
+returns-clause-workers c =
+    let many = length-map c.args.kept.items (λ (own : VecDeque Done Global). own.items) in
+    subst (λ n. AllByRecursion (λ (done : Done). (1 ≤ done.worker) × (done.worker ≤ n)) c.loop-i.done.items) (many ∙ c.args.kept.ok.0)
+    c.loop-i.invariant.workers
 
 pub returns-clause-own : goal.returns-clause-own
 returns-clause-own c i below =
