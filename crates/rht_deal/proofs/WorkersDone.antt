@@ -123,7 +123,7 @@ module _ {M : Type 0} (mix : ℕ → ℕ → ℕ → ℕ) (t : Table M) (script 
       (all_endings script.config.callers dones)
   HaveServedAll-done workers dones config all many numbers each = record {
     config_same = config;
-    passes = length-map workers (λ (w : Worker M). w.pass) ∙ many;
+    many = length-map workers (λ (w : Worker M). w.pass) ∙ many;
     workers = length-all_endings script.config.callers dones;
     each = λ i default below.
         let commands = script.commands.items in

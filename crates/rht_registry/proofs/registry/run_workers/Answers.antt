@@ -21,7 +21,7 @@ returns g c =
     omega (arith, many, replies.ok.0, c.in_ok-passes.ensures.replies, c.in_ok-left.ensures.len) in
     record {
       config_same = c.in_ok-table.ensures.config;
-      passes = length_passes;
+      many = length_passes;
       workers = length_replies;
       each = λ i default below.
           subst (λ mix. HasServedWorker mix table script.auto script.commands.items i (get_or passes.items i default)
