@@ -3,20 +3,24 @@
 use Rattle.std.proofs.Common.{◌≡◌, ℕ, Bool, true, false, Ok, Err, List, [], ◌∷◌, ◌++◌, map, codes, refl}
 use Rattle.rht_words.specs.Ports.{port_at}
 use Rattle.rht_words.specs.Settled.{plain_config}
+use Rattle.rht_words.specs.Sizes.{powers, rounded_up}
 use Rattle.rht_words.specs.declared.config.Kind.TheVariants.{Listed}
 use Rattle.rht_words.specs.declared.config.Config.{Config}
 use Rattle.rht_model.specs.declared.history.Call.{Call}
 use Rattle.rht_model.specs.declared.history.Call.TheVariants.{Bind, Find, All, Release, Rebind, Count}
 use Rattle.rht_script.specs.declared.cause.Cause.{Cause}
 use Rattle.rht_script.specs.declared.cause.Cause.TheVariants.{NoTableLine, UnknownWord, BadNumber, OutOfRange, OptionsDisagree}
-use Rattle.rht_script.specs.PortWords.{one_number, net_and_number}
+use Rattle.rht_script.specs.Spelling.{lines_of, words_of, number_of}
+use Rattle.rht_script.specs.TableLines.{setting_of, configured, config_of, table_of}
+use Rattle.rht_script.specs.PortWords.{one_number, net_and_number, port_of_word}
+use Rattle.rht_script.specs.CommandLines.{bind_of, find_of, all_of, release_of, rebind_of, bare_of, call_of}
 use Rattle.rht_script.specs.Grammar.{fault_at}
 use Rattle.rht_script.specs.Dealt.{dealt_of, dealing_of}
-use Rattle.rht_script.proofs.WorkedInputs.{whole_reading}
 
 -- the definitions that reading a dealt script computes
 whole_dealing : Unit {0}
-unfolding dealing_of dealt_of whole_reading
+unfolding dealing_of dealt_of lines_of words_of number_of port_of_word table_of setting_of config_of configured rounded_up powers
+    call_of bind_of find_of all_of release_of rebind_of bare_of
 whole_dealing = tt
 
 -- each of these texts has its first fault at this line, of this cause

@@ -25,7 +25,7 @@ use Rattle.rht_script.specs.ScriptLines.{line_of}
 use Rattle.rht_script.specs.Grammar.{most_in_line, fault_at, reading_of}
 
 -- the definitions that reading a text computes
-pub whole_reading : Unit {0}
+whole_reading : Unit {0}
 unfolding reading_of lines_of words_of number_of port_of_word table_of setting_of config_of configured rounded_up powers
     line_of events_of command_of call_of bind_of find_of all_of release_of rebind_of bare_of
 whole_reading = tt
