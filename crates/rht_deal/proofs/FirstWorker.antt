@@ -24,13 +24,13 @@ module _ {M Q A E : Type 0} (mix : ℕ → ℕ → ℕ → ℕ) (t : Table M) (q
 
   pub gathered-working : AreWorking mix t script 1 workers
   gathered-working =
-      subst (AreWorking mix t script 1) (sym gathered.workers_are) (AreWorking-worked mix t queue script 1 gathered.jobs worked_jobs)
+      subst (AreWorking mix t script 1) (sym gathered.workers_are) (AreWorking-worked E mix t queue script 1 gathered.jobs worked_jobs)
 
   pub gathered-joined : HasJoined old new workers
   gathered-joined =
       subst (λ ws. HasJoined old new ws) (sym gathered.workers_are)
       (subst (λ (v : Hand). HasJoined old v (workers_of gathered.jobs)) (sym gathered.hand_is)
-      (HasJoined-worked mix t queue script 1 gathered.jobs old worked_jobs))
+      (HasJoined-worked E mix t queue script 1 gathered.jobs old worked_jobs))
 
   pub gathered-many : length workers ≡ length left
   gathered-many =

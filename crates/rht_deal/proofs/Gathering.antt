@@ -14,35 +14,33 @@ use Rattle.rht_deal.specs.declared.numbers.Hand.{Hand}
 use Rattle.rht_deal.specs.declared.worker.Worker.{Worker}
 use Rattle.rht_deal.specs.DoneCommands.{numbers_of}
 use Rattle.rht_deal.specs.Numbers.{hand, all_parts, numbers_to, weight, joined, HasAll}
+use Rattle.rht_deal.proofs.ReadyWorkers.{JobOf}
 use Rattle.rht_deal.specs.Workers.{AreWorking, HasWorked, HaveWorked, HaveDoneAll, HasTaken, HasGathered, IsWorking, AreAmong, weight_of_all}
 
 module _ {M : Type 0} where
-  abbrev Job : Type 0
-  Job = Worker M × Pass ℕ Hand
-
   -- a hand that has taken in those of these jobs
-  abbrev after_joins : Hand → List Job → Hand
-  after_joins old jobs = fold (λ v (job : Job). joined v (view job.1)) old jobs
+  abbrev after_joins : Hand → List (JobOf M) → Hand
+  after_joins old jobs = fold (λ v (job : JobOf M). joined v (view job.1)) old jobs
 
-  abbrev pub workers_of : List Job → List (Worker M)
-  workers_of jobs = map (λ (job : Job). job.0) jobs
+  abbrev pub workers_of : List (JobOf M) → List (Worker M)
+  workers_of jobs = map (λ (job : JobOf M). job.0) jobs
 
   -- ---- the workers, one after another
 
   module _ {E : Type 0} where
-    pub HasGathered-none : (old : Hand) → HasGathered {E = E} [] [] old old
+    pub HasGathered-none : (old : Hand) → HasGathered {M = M} {E = E} [] [] old old
     HasGathered-none old = record { jobs = []; all = refl; workers_are = refl; hand_is = refl }
 
-    pub HasGathered-push : (left : List (Result Job E)) (workers : List (Worker M)) (old new : Hand) (worked : Result Job E) (job : Job)
+    pub HasGathered-push : (left : List (Result (JobOf M) E)) (workers : List (Worker M)) (old new : Hand) (worked : Result (JobOf M) E) (job : JobOf M)
         (after : Hand) → HasGathered left workers old new → worked ≡ Ok job → after ≡ joined new (view job.1)
         → HasGathered (left ++ worked ∷ []) (workers ++ job.0 ∷ []) old after
     HasGathered-push left workers old new worked job after so is joins = record {
       jobs = so.jobs ++ job ∷ [];
       all = ap (λ l. l ++ worked ∷ []) so.all ∙ ap (λ w. map Ok so.jobs ++ w ∷ []) is ∙ sym (map_push Ok so.jobs job);
-      workers_are = ap (λ l. l ++ job.0 ∷ []) so.workers_are ∙ sym (map_push (λ (j : Job). j.0) so.jobs job);
+      workers_are = ap (λ l. l ++ job.0 ∷ []) so.workers_are ∙ sym (map_push (λ (j : JobOf M). j.0) so.jobs job);
       hand_is =
           joins ∙ ap (λ v. joined v (view job.1)) so.hand_is
-          ∙ sym (fold-append (λ v (j : Job). joined v (view j.1)) old so.jobs (job ∷ []));
+          ∙ sym (fold-append (λ v (j : JobOf M). joined v (view j.1)) old so.jobs (job ∷ []));
     }
 
   -- it has their parts and what they have taken
@@ -51,9 +49,9 @@ module _ {M : Type 0} where
     pub pushed : new.pushed ≡ old.pushed
     pub taken : (h : ℕ → ℕ) → weight h new.taken ≡ weight h old.taken + weight_of_all h workers
 
-  module _ {Q A E : Type 0} (mix : ℕ → ℕ → ℕ → ℕ) (t : Table M) (queue : Slotted (Option ℕ) (Doing ℕ Hand) Q A) (script : Script) where
+  module _ {Q A : Type 0} (E : Type 0) (mix : ℕ → ℕ → ℕ → ℕ) (t : Table M) (queue : Slotted (Option ℕ) (Doing ℕ Hand) Q A) (script : Script) where
     -- By induction over the workers.
-    pub HasJoined-worked : (number : ℕ) (jobs : List Job) (old : Hand)
+    pub HasJoined-worked : (number : ℕ) (jobs : List (JobOf M)) (old : Hand)
         → HaveWorked {E = E} mix t queue script number (map Ok jobs) → HasJoined old (after_joins old jobs) (workers_of jobs)
     HasJoined-worked number [] old worked = record { parts = omega arith; pushed = refl; taken = λ h. omega arith }
     HasJoined-worked number (job ∷ jobs) old worked =
@@ -78,7 +76,7 @@ module _ {M : Type 0} where
         }
 
     -- and the workers are in order of their numbers
-    pub AreWorking-worked : (number : ℕ) (jobs : List Job) → HaveWorked {E = E} mix t queue script number (map Ok jobs)
+    pub AreWorking-worked : (number : ℕ) (jobs : List (JobOf M)) → HaveWorked {E = E} mix t queue script number (map Ok jobs)
         → AreWorking mix t script number (workers_of jobs)
     AreWorking-worked number [] worked = tt
     AreWorking-worked number (job ∷ jobs) worked =

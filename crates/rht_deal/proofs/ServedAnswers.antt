@@ -1,8 +1,8 @@
 -- A worker that does a command more. Its pass has served that behind the others, and it keeps what the command was answered: the reply with its
 -- owners, and no pairs, since no command that is dealt is a walk.
-use Rattle.std.proofs.Common.{◌≡◌, ℕ, ◌+◌, ◌-◌, ◌<◌, ◌≤◌, Bool, true, false, List, [], ◌∷◌, ◌++◌, length, map, get_or, refl, sym, ◌∙◌, ap, subst, arith}
+use Rattle.std.proofs.Common.{◌≡◌, ℕ, zero, suc, ◌+◌, ◌-◌, ◌<◌, ◌≤◌, ◌==◌, ◌&&◌, Bool, true, false, List, [], ◌∷◌, ◌++◌, length, map, get_or, refl, sym, ◌∙◌, ap, subst, arith}
 use Rattle.std.specs.Prelude.{Option}
-use Rattle.std.specs.List.{AllByRecursion}
+use Rattle.std.specs.List.{AllByRecursion, list_all}
 use Rattle.std.proofs.lemmas.List.{map_push}
 use Rattle.rht_words.proofs.EachElement.{AllByRecursion-push, AllByRecursion-cut}
 use Rattle.rht_model.specs.declared.history.Call.{Call}
@@ -21,7 +21,8 @@ use Rattle.rht_run.specs.Workers.{HasServedCalls}
 use Rattle.rht_run.proofs.CallSteps.{answers}
 use Rattle.rht_run.proofs.ServedWorkers.{HasServedCalls-more}
 use Rattle.rht_script.specs.declared.script.Script.{Script}
-use Rattle.rht_script.specs.Dealt.{is_dealt_call}
+use Rattle.rht_script.specs.Sound.{has_sound_numbers}
+use Rattle.rht_script.specs.Dealt.{is_dealt_call, is_dealt_command, nobody, IsDealtScript}
 use Rattle.rht_script.specs.declared.done.Done.{Done}
 use Rattle.rht_deal.specs.declared.worker.Worker.{Worker}
 use Rattle.rht_deal.specs.DoneCommands.{ending_of, numbers_of, calls_at}
@@ -63,6 +64,42 @@ module _ {M : Type 0} (mix : ℕ → ℕ → ℕ → ℕ) (t : Table M) (auto : 
 
   pub served-pairs : is_dealt_call call ≡ true → now.local.pairs.items ≡ []
   served-pairs dealt = no_pairs call reply now.local.pairs.items dealt its_answer.reply its_answer.pairs
+
+-- ---- a command of the script
+
+-- two tests pass where both do
+and_from-true : (x y : Bool) → (x && y) ≡ true → (x ≡ true) × (y ≡ true)
+and_from-true true y both = (refl, both)
+and_from-true false y both = absurd (cc)
+
+-- what is so of all commands is so of the one at a place
+list_all-at : {X : Type 0} (p : X → Bool) (xs : List X) (i : ℕ) (default : X) → list_all p xs ≡ true → i < length xs
+    → p (get_or xs i default) ≡ true
+list_all-at p [] i default all below = absurd (omega (arith, below))
+list_all-at p (x ∷ xs) zero default all below = (and_from-true (p x) (list_all p xs) all).0
+list_all-at p (x ∷ xs) (suc i) default all below =
+    list_all-at p xs i default (and_from-true (p x) (list_all p xs) all).1 (omega (arith, below))
+
+-- a place within a list has the same whatever stands for what isn't there
+get_or-within : {X : Type 0} (xs : List X) (i : ℕ) (a b : X) → i < length xs → get_or xs i a ≡ get_or xs i b
+get_or-within [] i a b below = absurd (omega (arith, below))
+get_or-within (x ∷ xs) zero a b below = refl
+get_or-within (x ∷ xs) (suc i) a b below = get_or-within xs i a b (omega (arith, below))
+
+-- the call of a command of a dealt script, which any worker may do
+pub dealt-at : (script : Script) (place : ℕ) (command : ℕ × Call) → IsDealtScript script → place < length script.commands.items
+    → command ≡ get_or script.commands.items place command
+    → ((get_or script.commands.items place (0, Count)).1 ≡ command.1) × (is_dealt_call command.1 ≡ true)
+dealt-at script place command dealt within is =
+    let commands = script.commands.items in
+    let one : is_dealt_command script.form script.config (get_or commands place command) ≡ true =
+    list_all-at (is_dealt_command script.form script.config) commands place command dealt.commands within in
+    let its : is_dealt_command script.form script.config command ≡ true =
+    ap (is_dealt_command script.form script.config) is ∙ one in
+    let behind = (and_from-true (command.0 == nobody) _ its).1 in (
+      ap (λ (c : ℕ × Call). c.1) (get_or-within commands place (0, Count) command within ∙ sym is),
+      (and_from-true (is_dealt_call command.1) _ (and_from-true (has_sound_numbers script.form command.1) _ behind).1).0,
+    )
 
 -- ---- one command more
 

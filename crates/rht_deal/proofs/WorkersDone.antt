@@ -154,3 +154,16 @@ module _ {M : Type 0} (mix : ℕ → ℕ → ℕ → ℕ) (t : Table M) (script 
       some_worker : (ws : List (Worker M)) → {i : ℕ} → i < length ws → Worker M
       some_worker [] below = absurd (omega (arith, below))
       some_worker (w ∷ ws) below = w
+
+  -- so it is where the passes and what each has done were parted
+  pub HaveServedAll-parted : (workers : List (Worker M)) (passes : List (Pass M)) (kept : List (List Done)) (dones : List Done) (count : ℕ)
+      → t.env.config ≡ script.config → AreWorking mix t script 1 workers → length workers ≡ script.config.callers
+      → passes ≡ passes_of workers → kept ≡ kept_of workers → count ≡ length script.commands.items → numbers_of dones ≡ numbers_to count
+      → ((i : ℕ) → i < length kept → done_by (i + 1) dones ≡ get_or kept i [])
+      → HaveServedAll mix script.config t script.auto (as_done dones script.commands.items) passes (all_endings script.config.callers dones)
+  HaveServedAll-parted workers passes kept dones count config all many passes_are kept_are count_is numbers each =
+      let as_many : length kept ≡ length workers = ap length kept_are ∙ length-map workers (λ (w : Worker M). w.done.items) in
+      subst (λ ps. HaveServedAll mix script.config t script.auto (as_done dones script.commands.items) ps
+      (all_endings script.config.callers dones)) (sym passes_are)
+      (HaveServedAll-done workers dones config all many (numbers ∙ ap numbers_to count_is)
+      (λ i below. each i (omega (arith, below, as_many)) ∙ ap (λ l. get_or l i []) kept_are))

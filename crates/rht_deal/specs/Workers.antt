@@ -93,7 +93,7 @@ HaveWorked mix t queue script number (worked ∷ left) =
 
 -- together they have done each command once
 abbrev pub HaveDoneAll : {M : Type 0} → ℕ → List (Worker M) → Type 0
-HaveDoneAll {M} count workers = (h : ℕ → ℕ) → weight h (numbers_to count) ≡ weight_of_all {M} h workers
+HaveDoneAll {M} count workers = (h : ℕ → ℕ) → weight h (numbers_to count) ≡ weight_of_all {M = M} h workers
 
 -- All have ended well, and these are the workers. Another pass has taken in their passes of the queue, behind what it had taken.
 pub record HasGathered {M E : Type 0} (left : List (Result (Worker M × Pass ℕ Hand) E)) (workers : List (Worker M)) (old new : Hand)

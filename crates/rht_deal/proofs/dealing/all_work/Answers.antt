@@ -1,8 +1,8 @@
-use Rattle.std.proofs.Common.{◌≡◌, ℕ, ◌+◌, ◌<◌, length, get_or, sym, ap, subst, arith}
+use Rattle.std.proofs.Common.{◌≡◌, ℕ, ◌+◌, ◌<◌, length, get_or, sym, ◌∙◌, ap, subst, arith}
 use Rattle.std.specs.Prelude.{IfOk, slice_index_or}
 use Rattle.std.proofs.lemmas.Result.{IfOk-weaker}
 use Rattle.rht_deal.specs.Workers.{IsReady, HasWorked, HaveWorked}
-use Rattle.rht_deal.proofs.ReadyWorkers.{AreReady-at, HaveWorked-each}
+use Rattle.rht_deal.proofs.ReadyWorkers.{AreReady-at, HaveWorked-each, IfOk-both}
 use Rattle.rht_deal.proofs.dealing.all_work.Goals as goal
 
 pub map_vec-requires-after_bounds : goal.map_vec-requires-after_bounds
@@ -26,12 +26,14 @@ returns-clause-worked g c =
     let script = c.args.deal.now.script.now in
     IfOk-weaker c.map_vec.result _
     (λ left. HaveWorked mix table queue script 1 left.items)
-    (λ left gives. HaveWorked-each mix table queue script 1 left.items
+    (λ left both. HaveWorked-each mix table queue script 1 left.items
     (λ i default below.
-    let few : i < length c.args.jobs.items = omega (arith, below, c.args.jobs.ok.0) in
-    let given = (gives i default few).1 in
+    let many = both.0 in
+    let few : i < length c.args.jobs.items = omega (arith, below, many, c.args.jobs.ok.0, left.ok.0) in
+    let given = (both.1 i default few).1 in
     let ready = AreReady-at mix table queue script 1 c.args.jobs.items i given.job c.requires.jobs few in
-    let own : given.job.0.number ≡ 1 + i = ap (λ (j : _). j.0.number) (sym (given.job_is given.job)) in
+    let same = given.job_is given.job in
+    let own : given.job.0.number ≡ 1 + i = ap (λ (j : _). j.0.number) (sym same) ∙ ready.number_is in
     subst (λ (n : ℕ). IfOk (slice_index_or left.items i default) (λ worked. HasWorked mix table queue script n worked.0 worked.1))
     own given.call.met))
-    c.map_vec.ensures.each
+    (IfOk-both c.map_vec.result _ _ c.map_vec.ensures.len c.map_vec.ensures.each)

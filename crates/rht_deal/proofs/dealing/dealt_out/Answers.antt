@@ -11,10 +11,19 @@ use Rattle.rht_deal.proofs.dealing.dealt_out.Goals as goal
 pub ready-requires-clause-dealer : goal.ready-requires-clause-dealer
 ready-requires-clause-dealer g c = record {
   of_queue = c.in_ok-queue.ensures.queue;
-  hand_is = c.in_ok-queue.ensures.pass ∙ ap (λ n. hand all_parts n []) c.args.script.now.commands.ok.0;
+  hand_is = c.in_ok-queue.ensures.pass ∙ ap (λ n. hand all_parts n []) (c.len.ensures ∙ c.args.script.now.commands.ok.0);
 }
 
 pub gathered-requires-clause-left : goal.gathered-requires-clause-left
 gathered-requires-clause-left g c =
     HaveWorked-of_queue g.M.Mix.mix_of c.args.table.now c.in_ok-queue.queue c.args.script.now 1 c.in_ok-left.left.items
     c.in_ok-left.ensures.worked
+
+pub work-requires-clause-working : goal.work-requires-clause-working
+work-requires-clause-working g c = ?working
+
+pub work-requires-clause-among : goal.work-requires-clause-among
+work-requires-clause-among g c = ?among
+
+pub returns-clause-workers : goal.returns-clause-workers
+returns-clause-workers g c = ?workers

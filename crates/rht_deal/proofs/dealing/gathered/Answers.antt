@@ -1,5 +1,6 @@
-use Rattle.std.proofs.Common.{◌≡◌, ◌+◌, ◌<◌, ◌×◌, ◌++◌, ◌∷◌, Ok, List, get_or, length, sym, ◌∙◌, ap, subst, arith}
+use Rattle.std.proofs.Common.{◌≡◌, ◌+◌, ◌<◌, ◌++◌, [], ◌∷◌, Ok, List, get_or, length, sym, ◌∙◌, ap, subst, arith}
 use Rattle.std.specs.Prelude.{IfOk, Result}
+use Rattle.std.specs.declared.alloc.AllocError.{AllocError}
 use Rattle.std.proofs.lemmas.List.{map-id}
 use Rattle.std.proofs.lemmas.Iterator.Adapters.{YieldsList-from_vec}
 use Rattle.std.proofs.lemmas.Iterator.Consumers.{YieldsList-end, YieldsList-turn}
@@ -16,13 +17,15 @@ pub loop-worked-init : goal.loop-worked-init
 loop-worked-init g c = record {
   queue = c.requires.dealer;
   part = c.requires.part;
-  so_far = HasGathered-none (view c.args.dealer.now);
+  so_far =
+      subst (λ (ws : List (Worker g.row.M.Denot)). HasGathered {M = g.row.M.Denot} {E = AllocError} [] ws (view c.args.dealer.now)
+      (view c.args.dealer.now)) (sym c.in_ok-workers.ensures.items) (HasGathered-none (view c.args.dealer.now));
 }
 
 pub join-requires-clause-queue : goal.join-requires-clause-queue
 join-requires-clause-queue g c =
     let left = c.args.left.items in
-    let turn = YieldsList-turn (YieldsList-from_vec left (cc) (cc)) c.loop-worked.yielded c.loop-worked.worked-iterator
+    let turn = YieldsList-turn (YieldsList-from_vec left c.into_iter-worked-iterator.ensures.into_iter_gives.0 (c.into_iter-worked-iterator.ensures.into_iter_gives.1 ∙ c.args.left.ok.0)) c.loop-worked.yielded c.loop-worked.worked-iterator
     c.loop-worked.yielded_by c.next.result c.next.new.self c.in-Some.worked c.in-Some.is c.next.ensures.steps in
     let each = EachElement-at (λ worked. IfOk worked (λ job. IsPassOf c.args.queue.now job.1)) left (length c.loop-worked.yielded)
     c.in-Some.worked c.requires.left turn.0 in (
@@ -35,15 +38,15 @@ loop-worked-preserved g c =
     let before = c.loop-worked.invariant in
     let old = view c.loop-worked.dealer in
     let own = view c.in_ok-worker.numbers in
-    let parts : (view c.join.new.dealer).parts ≡ old.parts + own.parts = ap (λ (v : Hand). v.parts) c.join.ensures.joined in
+    let parts : (view c.join.new.pass).parts ≡ old.parts + own.parts = ap (λ (v : Hand). v.parts) c.join.ensures.joined in
     record {
       queue = c.join.ensures.queue;
       part = (let part = before.part in omega (arith, parts, part));
       so_far =
-          subst (λ ws. HasGathered (c.loop-worked.yielded ++ c.in-Some.worked ∷ []) ws (view c.args.dealer.now) (view c.join.new.dealer))
+          subst (λ ws. HasGathered (c.loop-worked.yielded ++ c.in-Some.worked ∷ []) ws (view c.args.dealer.now) (view c.join.new.pass))
           (sym c.in_ok-push.ensures.items)
           (HasGathered-push c.loop-worked.yielded c.loop-worked.workers.items (view c.args.dealer.now) old c.in-Some.worked
-          (c.in_ok-worker.worker, c.in_ok-worker.numbers) (view c.join.new.dealer) before.so_far c.in_ok-worker.was c.join.ensures.joined);
+          (c.in_ok-worker.worker, c.in_ok-worker.numbers) (view c.join.new.pass) before.so_far c.in_ok-worker.was c.join.ensures.joined);
     }
 
 pub returns-clause-gathered : goal.returns-clause-gathered

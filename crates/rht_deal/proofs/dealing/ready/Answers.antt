@@ -16,9 +16,11 @@ use Rattle.rht_deal.proofs.dealing.ready.Goals as goal
 pub loop-pass-init : goal.loop-pass-init
 loop-pass-init g c =
     let is = c.requires.dealer.hand_is in
+    let none : c.in_ok-jobs.jobs.items ≡ [] = c.in_ok-jobs.ensures.items in
     record {
-      jobs = tt;
-      many = omega arith;
+      jobs =
+          subst (AreReady g.M.Mix.mix_of c.args.deal.now.table.now c.args.deal.now.queue.now c.args.deal.now.script.now 1) (sym none) tt;
+      many = omega (arith, ap length none, c.in_ok-jobs.jobs.ok.0);
       queue = c.requires.dealer.of_queue;
       hand_is = is ∙ ap (λ (v : Hand). hand v.parts (length c.args.deal.now.script.now.commands.items) v.taken) (sym is);
       parts = (let all : (view c.args.dealer.now).parts ≡ all_parts = ap (λ (v : Hand). v.parts) is in omega (arith, all));
@@ -35,7 +37,7 @@ loop-pass-preserved g c =
     let many = before.many in
     let passes = c.args.passes.items in
     let pass : Pass g.row.M.Denot = c.in-Some.pass in
-    let turn = YieldsList-turn (YieldsList-from_vec passes (cc) (cc)) yielded c.loop-pass.pass-iterator
+    let turn = YieldsList-turn (YieldsList-from_vec passes c.into_iter-pass-iterator.ensures.into_iter_gives.0 (c.into_iter-pass-iterator.ensures.into_iter_gives.1 ∙ c.args.passes.ok.0)) yielded c.loop-pass.pass-iterator
     c.loop-pass.yielded_by c.next.result c.next.new.self pass c.in-Some.is c.next.ensures.steps in
     let new : IsNew mix table (length yielded) pass =
     subst (IsNew mix table (length yielded)) (sym turn.1) (AreNew-place mix table passes (length yielded) pass c.requires.passes turn.0) in
@@ -44,25 +46,25 @@ loop-pass-preserved g c =
     (let is = c.in_ok-worker.ensures.number in omega (arith, is, many)) in
     let count = length script.commands.items in
     let is = before.hand_is in
-    let one : IsReady mix table queue script (1 + length c.loop-pass.jobs.items) worker c.share.result =
+    let one : IsReady mix table queue script (1 + length c.loop-pass.jobs.items) worker c.share-numbers.result =
     record {
       working =
           IsWorking-new mix table script (length yielded) pass worker new c.in_ok-worker.ensures.pass number
           c.in_ok-worker.ensures.done;
       number_is = omega (arith, number, many, c.loop-pass.jobs.ok.0);
       none = c.in_ok-worker.ensures.done;
-      of_queue = c.share.ensures.queue.1;
-      hand_is = c.share.ensures.right ∙ ap shared is;
+      of_queue = c.share-numbers.ensures.queue.1;
+      hand_is = c.share-numbers.ensures.right ∙ ap shared is;
     } in
-    let left : view c.share.new.dealer ≡ hand ((view c.loop-pass.dealer).parts - 1) (view c.loop-pass.dealer).pushed (view c.loop-pass.dealer).taken =
-    c.share.ensures.left in
-    let fewer : (view c.share.new.dealer).parts ≡ (view c.loop-pass.dealer).parts - 1 = ap (λ (v : Hand). v.parts) left in
+    let left : view c.share-numbers.new.pass ≡ hand ((view c.loop-pass.dealer).parts - 1) (view c.loop-pass.dealer).pushed (view c.loop-pass.dealer).taken =
+    c.share-numbers.ensures.left in
+    let fewer : (view c.share-numbers.new.pass).parts ≡ (view c.loop-pass.dealer).parts - 1 = ap (λ (v : Hand). v.parts) left in
     record {
       jobs =
           subst (AreReady mix table queue script 1) (sym c.in_ok-push.ensures.items)
-          (AreReady-push mix table queue script 1 c.loop-pass.jobs.items (worker, c.share.result) before.jobs one);
+          (AreReady-push mix table queue script 1 c.loop-pass.jobs.items (worker, c.share-numbers.result) before.jobs one);
       many = omega (arith, many, c.in_ok-push.ensures.len, length_push yielded pass);
-      queue = c.share.ensures.queue.0;
+      queue = c.share-numbers.ensures.queue.0;
       hand_is =
           left ∙ ap (λ (v : Hand). hand ((view c.loop-pass.dealer).parts - 1) v.pushed v.taken) is
           ∙ ap (λ n. hand n count (view c.args.dealer.now).taken) (sym fewer);

@@ -24,7 +24,7 @@ loop-i-preserved c =
 pub returns-clause-workers : goal.returns-clause-workers
 returns-clause-workers c =
     let many = length-map c.args.kept.items (λ (own : VecDeque Done Global). own.items) in
-    subst (λ n. AllByRecursion (λ (done : Done). (1 ≤ done.worker) × (done.worker ≤ n)) c.loop-i.done.items) (many ∙ c.args.kept.ok.0)
+    subst (λ n. AllByRecursion (λ (done : Done). (1 ≤ done.worker) × (done.worker ≤ n)) c.loop-i.done.items) (many ∙ sym c.args.kept.ok.0)
     c.loop-i.invariant.workers
 
 pub returns-clause-own : goal.returns-clause-own

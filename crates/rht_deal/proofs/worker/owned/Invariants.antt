@@ -3,7 +3,4 @@ use Rattle.rht_deal.proofs.worker.owned.Given as goal
 
 -- the owners so far
 abbrev pub invariant-loop-owner : goal.invariant-loop-owner
-invariant-loop-owner l = record {
-  own : l.own ≡ take l.owner-index l.owner-items;
-  items : l.owner-items ≡ l.owners;
-}
+invariant-loop-owner l = l.own ≡ take l.owner-index l.owners
