@@ -18,7 +18,7 @@ use Rattle.rht_deal.proofs.WorkersDone.{AreOwn-workers, AreEachOnce-workers, Hav
 use Rattle.rht_deal.proofs.dealing.run_dealt.Goals as goal
 
 pub dealt_out-requires-clause-can : goal.dealt_out-requires-clause-can
-dealt_out-requires-clause-can g c =
+dealt_out-requires-clause-can g c κs within =
     let can : CanDeal c.in_ok-table.table c.args.script.now =
     record { config_same = c.in_ok-table.ensures.config; dealt = c.requires.dealt } in
     can
