@@ -1,20 +1,19 @@
 -- All workers have ended, and the dealer's pass of the queue has taken in theirs. With that pass the first worker does what is left. Then
 -- together they have done each command once.
-use Rattle.std.proofs.Common.{◌≡◌, ℕ, zero, suc, ◌+◌, ◌<◌, ◌≤◌, List, [], ◌∷◌, length, map, get_or, set, refl, sym, ◌∙◌, ap, subst, arith}
+use Rattle.std.proofs.Common.{◌≡◌, ℕ, ◌<◌, List, [], ◌∷◌, length, map, get_or, set, sym, ◌∙◌, ap, subst, arith}
 use Rattle.std.specs.Prelude.{Option, Result, Ok}
 use Rattle.std.proofs.lemmas.List.{length-map}
 use Rattle.crossbeam_queue.specs.declared.array_queue.Doing.{Doing}
 use Rattle.crossbeam_queue.specs.declared.array_queue.Slotted.{Slotted}
-use Rattle.crossbeam_queue.specs.Passes.{Pass, view}
+use Rattle.crossbeam_queue.specs.Passes.{Pass}
 use Rattle.rht_run.specs.declared.table.Table.{Table}
 use Rattle.rht_script.specs.declared.script.Script.{Script}
 use Rattle.rht_deal.specs.declared.numbers.Hand.{Hand}
 use Rattle.rht_deal.specs.declared.worker.Worker.{Worker}
 use Rattle.rht_deal.specs.DoneCommands.{numbers_of}
-use Rattle.rht_deal.specs.Numbers.{hand, all_parts, HasAll}
+use Rattle.rht_deal.specs.Numbers.{all_parts, HasAll}
 use Rattle.rht_deal.specs.Workers.{IsWorking, AreWorking, HaveWorked, HaveDoneAll, HasTaken, HasGathered, AreAmong}
 use Rattle.rht_deal.proofs.Gathering.{HasJoined, HasJoined-worked, AreWorking-worked, AreAmong-first, HaveDoneAll-rest, workers_of}
-use Rattle.rht_deal.proofs.WorkersDone.{AreWorking-at}
 
 module _ {M Q A E : Type 0} (mix : ℕ → ℕ → ℕ → ℕ) (t : Table M) (queue : Slotted (Option ℕ) (Doing ℕ Hand) Q A) (script : Script)
     (left : List (Result (Worker M × Pass ℕ Hand) E)) (workers : List (Worker M)) (old new : Hand)

@@ -1,21 +1,20 @@
 -- The dealer's pass of the queue, once it has taken in those of all workers: it has all parts again, and what it has taken weighs what the
 -- workers have done. So where it finds the queue empty at last, each number was done once.
-use Rattle.std.proofs.Common.{◌≡◌, ℕ, zero, suc, ◌+◌, List, [], ◌∷◌, ◌++◌, length, map, refl, sym, ◌∙◌, ap, subst, arith}
-use Rattle.std.specs.Prelude.{fold, sum_by, Option, Result, Ok, IfOk}
+use Rattle.std.proofs.Common.{◌≡◌, ℕ, ◌+◌, List, [], ◌∷◌, ◌++◌, length, map, refl, sym, ◌∙◌, ap, arith}
+use Rattle.std.specs.Prelude.{fold, Option, Result, Ok}
 use Rattle.std.proofs.lemmas.List.{map_push}
 use Rattle.std.proofs.lemmas.List.Sums.{sum_by-cons, sum_by-append, fold-append}
 use Rattle.crossbeam_queue.specs.declared.array_queue.Doing.{Doing}
 use Rattle.crossbeam_queue.specs.declared.array_queue.Slotted.{Slotted}
-use Rattle.crossbeam_queue.specs.Passes.{Pass, view}
+use Rattle.crossbeam_queue.specs.Passes.{view}
 use Rattle.rht_run.specs.declared.table.Table.{Table}
 use Rattle.rht_script.specs.declared.script.Script.{Script}
-use Rattle.rht_script.specs.declared.done.Done.{Done}
 use Rattle.rht_deal.specs.declared.numbers.Hand.{Hand}
 use Rattle.rht_deal.specs.declared.worker.Worker.{Worker}
 use Rattle.rht_deal.specs.DoneCommands.{numbers_of}
-use Rattle.rht_deal.specs.Numbers.{hand, all_parts, numbers_to, weight, joined, HasAll}
+use Rattle.rht_deal.specs.Numbers.{all_parts, numbers_to, weight, joined, HasAll}
 use Rattle.rht_deal.proofs.ReadyWorkers.{JobOf}
-use Rattle.rht_deal.specs.Workers.{AreWorking, HasWorked, HaveWorked, HaveDoneAll, HasTaken, HasGathered, IsWorking, AreAmong, weight_of_all}
+use Rattle.rht_deal.specs.Workers.{AreWorking, HaveWorked, HaveDoneAll, HasTaken, HasGathered, AreAmong, weight_of_all}
 
 module _ {M : Type 0} where
   -- a hand that has taken in those of these jobs

@@ -2,9 +2,8 @@
 -- A push adds the next number, which only a pass with all parts knows: no other one has taken any. A pop moves a number from the queue to its
 -- pass; it is above all that were taken, since it was in the queue. What passes have taken weighs the same before and after they are made
 -- of one another, or brought together. And what a pass with all parts has taken is all that was taken.
-use Rattle.std.proofs.Common.{◌≡◌, ◌≢◌, ℕ, zero, suc, ◌+◌, ◌-◌, ◌<◌, ◌≤◌, ◌⊎◌, List, [], ◌∷◌, ◌++◌, length, set, refl, sym, ◌∙◌, ap, subst, inl, inr, ⊎_elim, arith}
-use Rattle.std.specs.Prelude.{sum_by}
-use Rattle.std.specs.List.{AllByRecursion, range_with_len}
+use Rattle.std.proofs.Common.{◌≡◌, ◌≢◌, ℕ, zero, suc, ◌+◌, ◌<◌, ◌≤◌, List, [], ◌∷◌, ◌++◌, length, set, refl, sym, ◌∙◌, ap, subst, ⊎_elim, arith}
+use Rattle.std.specs.List.{AllByRecursion}
 use Rattle.std.proofs.lemmas.List.Sums.{sum_by-cons, sum_by-append, sum_by_push}
 use mathlib.Core.Option.{some, some-ne-none}
 use lib.ListN.{get_elem?}
@@ -12,7 +11,7 @@ use Rattle.crossbeam_queue.specs.Fifo.{Pushes, Pops, Forks, Merges, Learns, Held
 use Rattle.crossbeam_queue.proofs.Lists.{at_set, at_snoc}
 use Rattle.rht_words.proofs.EachElement.{AllByRecursion-append, AllByRecursion-push, AllByRecursion-weaker}
 use Rattle.rht_deal.specs.declared.numbers.Hand.{Hand}
-use Rattle.rht_deal.specs.Numbers.{hand, all_parts, numbers_to, weight, AreTogether, AreRising, AreAbove, IsHand, AreDealt, Pushed, Took, KnowsAll, HasAll, sharing, shared, joined}
+use Rattle.rht_deal.specs.Numbers.{hand, all_parts, numbers_to, weight, AreRising, AreAbove, IsHand, AreDealt, Pushed, Took, KnowsAll, HasAll, sharing, shared, joined}
 use Rattle.std.proofs.lemmas.List.FromFn.{length-range_with_len}
 use Rattle.rht_deal.proofs.NumberLists.{numbers_to-push, weight-ones, sum_by-set_at, sum_by-at, sum_by-two, sum_by-only, AllByRecursion-range}
 

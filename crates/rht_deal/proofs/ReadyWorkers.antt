@@ -1,11 +1,11 @@
 -- Lists of workers: those that are ready, each with its pass of the queue, and those that have worked.
-use Rattle.std.proofs.Common.{◌≡◌, ℕ, zero, suc, ◌+◌, ◌<◌, List, [], ◌∷◌, ◌++◌, length, get_or, refl, sym, ◌∙◌, ap, subst, arith}
+use Rattle.std.proofs.Common.{◌≡◌, ℕ, zero, suc, ◌+◌, ◌<◌, List, [], ◌∷◌, ◌++◌, length, get_or, subst, arith}
 use Rattle.std.specs.Prelude.{Option, Result, Ok, Err, IfOk}
 use Rattle.std.specs.List.{AllByRecursion}
 use Rattle.std.proofs.lemmas.Result.{IfOk-weaker}
 use Rattle.crossbeam_queue.specs.declared.array_queue.Doing.{Doing}
 use Rattle.crossbeam_queue.specs.declared.array_queue.Slotted.{Slotted}
-use Rattle.crossbeam_queue.specs.Passes.{Pass, view, IsPassOf}
+use Rattle.crossbeam_queue.specs.Passes.{Pass, IsPassOf}
 use Rattle.rht_run.specs.declared.table.Table.{Table}
 use Rattle.rht_script.specs.declared.script.Script.{Script}
 use Rattle.rht_deal.specs.declared.numbers.Hand.{Hand}

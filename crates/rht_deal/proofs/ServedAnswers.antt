@@ -1,6 +1,6 @@
 -- A worker that does a command more. Its pass has served that behind the others, and it keeps what the command was answered: the reply with its
 -- owners, and no pairs, since no command that is dealt is a walk.
-use Rattle.std.proofs.Common.{◌≡◌, ℕ, zero, suc, ◌+◌, ◌-◌, ◌<◌, ◌≤◌, ◌==◌, ◌&&◌, Bool, true, false, List, [], ◌∷◌, ◌++◌, length, map, get_or, refl, sym, ◌∙◌, ap, subst, arith}
+use Rattle.std.proofs.Common.{◌≡◌, ℕ, zero, suc, ◌+◌, ◌-◌, ◌<◌, ◌==◌, ◌&&◌, Bool, true, false, List, [], ◌∷◌, ◌++◌, length, map, get_or, refl, sym, ◌∙◌, ap, subst, arith}
 use Rattle.std.specs.Prelude.{Option}
 use Rattle.std.specs.List.{AllByRecursion, list_all}
 use Rattle.std.proofs.lemmas.List.{map_push}
@@ -10,7 +10,7 @@ use Rattle.rht_model.specs.declared.history.Call.TheVariants.{Bind, Find, All, R
 use Rattle.rht_model.specs.declared.history.Cursor.{Cursor}
 use Rattle.rht_model.specs.declared.history.Reply.{Reply}
 use Rattle.rht_model.specs.declared.history.Reply.TheVariants as replies
-use Rattle.rht_model.specs.Endings.{Ending, ended_with, replied}
+use Rattle.rht_model.specs.Endings.{ended_with, replied}
 use Rattle.rht_core.specs.Replies.{IsReplyTo, ArePairsWith, IsRightlyAnswered}
 use Rattle.rht_core.proofs.Histories.ToldEntries.{tries-last}
 use Rattle.rht_run.specs.declared.pass.Pass.{Pass}

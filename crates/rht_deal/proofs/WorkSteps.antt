@@ -1,6 +1,6 @@
 -- A worker that takes numbers from the queue, one after another. What it has done is among what its pass of the queue has taken; so the next
 -- number, which is above all that pass has taken, is above all that the worker has done.
-use Rattle.std.proofs.Common.{◌≡◌, ℕ, ◌+◌, ◌<◌, ◌≤◌, List, [], ◌∷◌, ◌++◌, map, refl, sym, ◌∙◌, ap, subst, append_assoc, arith}
+use Rattle.std.proofs.Common.{◌≡◌, ℕ, ◌+◌, ◌<◌, List, [], ◌∷◌, ◌++◌, map, refl, sym, ◌∙◌, ap, subst, append_assoc, arith}
 use Rattle.std.specs.List.{AllByRecursion}
 use Rattle.std.proofs.lemmas.List.{append-nil}
 use Rattle.std.proofs.lemmas.List.Sums.{sum_by_push}
@@ -14,7 +14,7 @@ use Rattle.rht_script.specs.declared.done.Done.{Done}
 use Rattle.rht_deal.specs.declared.numbers.Hand.{Hand}
 use Rattle.rht_deal.specs.declared.worker.Worker.{Worker}
 use Rattle.rht_deal.specs.DoneCommands.{ending_of, numbers_of, calls_at}
-use Rattle.rht_deal.specs.Numbers.{hand, weight, AreRising, Took, HasAll}
+use Rattle.rht_deal.specs.Numbers.{hand, AreRising, Took}
 use Rattle.rht_deal.specs.Workers.{IsWorking, AreAmong, HasTaken}
 use Rattle.rht_deal.proofs.NumberLists.{AllByRecursion-among}
 

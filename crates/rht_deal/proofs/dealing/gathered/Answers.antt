@@ -1,13 +1,12 @@
-use Rattle.std.proofs.Common.{◌≡◌, ◌+◌, ◌<◌, ◌++◌, [], ◌∷◌, Ok, List, get_or, length, sym, ◌∙◌, ap, subst, arith}
-use Rattle.std.specs.Prelude.{IfOk, Result}
+use Rattle.std.proofs.Common.{◌≡◌, ◌+◌, ◌++◌, [], ◌∷◌, List, length, sym, ◌∙◌, ap, subst, arith}
+use Rattle.std.specs.Prelude.{IfOk}
 use Rattle.std.specs.declared.alloc.AllocError.{AllocError}
 use Rattle.std.proofs.lemmas.List.{map-id}
 use Rattle.std.proofs.lemmas.Iterator.Adapters.{YieldsList-from_vec}
 use Rattle.std.proofs.lemmas.Iterator.Consumers.{YieldsList-end, YieldsList-turn}
-use Rattle.crossbeam_queue.specs.Passes.{Pass, view, IsPassOf}
+use Rattle.crossbeam_queue.specs.Passes.{view, IsPassOf}
 use Rattle.rht_deal.specs.declared.numbers.Hand.{Hand}
 use Rattle.rht_deal.specs.declared.worker.Worker.{Worker}
-use Rattle.rht_deal.specs.Numbers.{joined}
 use Rattle.rht_deal.specs.Workers.{HasGathered}
 use Rattle.rht_deal.proofs.Gathering.{HasGathered-none, HasGathered-push}
 use Rattle.rht_deal.proofs.ReadyWorkers.{EachElement-at}

@@ -1,4 +1,4 @@
-use Rattle.std.proofs.Common.{◌≡◌, ◌<◌}
+use Rattle.std.proofs.Common.{◌<◌}
 use Rattle.crossbeam_queue.specs.Passes.{view, IsPassOf}
 use Rattle.rht_deal.specs.Workers.{HasGathered}
 use Rattle.rht_deal.proofs.dealing.gathered.Given as goal

@@ -1,4 +1,4 @@
-use Rattle.rht_deal.proofs.NumberRule.{pops, learns, HasAll-empty}
+use Rattle.rht_deal.proofs.NumberRule.{pops, learns}
 use Rattle.rht_deal.proofs.numbers.next.Goals as goal
 
 pub pop_as-requires-clause-rule : goal.pop_as-requires-clause-rule

@@ -1,4 +1,3 @@
-use Rattle.std.proofs.Common.{◌≡◌}
 use Rattle.rht_deal.specs.Ordering.{kept_items}
 use Rattle.rht_deal.proofs.DoneOrder.{InOrder}
 use Rattle.rht_deal.proofs.ordering.in_order.Given as goal

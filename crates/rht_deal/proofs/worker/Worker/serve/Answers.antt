@@ -1,7 +1,5 @@
-use Rattle.std.proofs.Common.{◌≡◌, ℕ, ◌-◌, ◌<◌, true, length, get_or, sym, ◌∙◌, ap, arith}
+use Rattle.std.proofs.Common.{ℕ, ◌-◌, ◌<◌, length, ◌∙◌, arith}
 use Rattle.rht_model.specs.declared.history.Call.{Call}
-use Rattle.rht_model.specs.declared.history.Call.TheVariants.{Count}
-use Rattle.rht_script.specs.Dealt.{is_dealt_call}
 use Rattle.rht_deal.proofs.ServedAnswers.{IsWorking-more, dealt-at}
 use Rattle.rht_deal.proofs.worker.Worker.serve.Goals as goal
 

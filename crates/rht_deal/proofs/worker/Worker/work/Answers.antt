@@ -1,4 +1,4 @@
-use Rattle.std.proofs.Common.{◌≡◌, ◌+◌, ◌<◌, ◌≤◌, length, sym, ◌∙◌, ap, subst, arith}
+use Rattle.std.proofs.Common.{◌≡◌, sym, ap, subst, arith}
 use Rattle.crossbeam_queue.specs.Passes.{view}
 use Rattle.rht_deal.specs.declared.numbers.Hand.{Hand}
 use Rattle.rht_deal.specs.Numbers.{HasAll}
