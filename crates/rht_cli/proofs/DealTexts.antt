@@ -2,7 +2,6 @@
 use Rattle.std.proofs.Common.{◌≡◌, ℕ, List, Option, Result, refl, sym, subst}
 use Rattle.std.specs.Io.KnownBytes.{Appends}
 use Rattle.rht_words.specs.declared.config.Hash.{Hash}
-use Rattle.rht_policy.specs.Mix.{mix_named}
 use Rattle.rht_model.specs.declared.bindings.Closed.{Closed}
 use Rattle.rht_run.specs.ServedRuns.{tag_of}
 use Rattle.rht_script.specs.declared.script.Script.{Script}

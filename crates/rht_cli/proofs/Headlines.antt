@@ -1,5 +1,5 @@
 -- The headline, of a text that `run` has printed: what stands behind the text (`HasRun`) says it, and the laws of every run say the rest.
-use Rattle.std.proofs.Common.{◌≡◌, ℕ, Bool, List, Option, Result, Ok, Err, sym, ap, ◌∙◌, subst, arith}
+use Rattle.std.proofs.Common.{◌≡◌, ℕ, Bool, List, Option, Result, Ok, Err, refl, sym, ap, ◌∙◌, subst, arith}
 use Rattle.std.specs.Io.KnownBytes.{Appends}
 use Rattle.rht_words.specs.declared.config.Config.{Config}
 use Rattle.rht_policy.specs.Mix.{mix_named}
@@ -15,12 +15,13 @@ use Rattle.rht_core.specs.ToldHistories.{entries_by, entries_of_finished}
 use Rattle.rht_core.proofs.Finding.LookupLaws.{finds_what_stays}
 use Rattle.rht_core.proofs.Returning.SafeInRuns.{safe}
 use Rattle.rht_run.specs.ServedRuns.{tag_of}
+use Rattle.rht_script.specs.declared.script.ScriptFault.{ScriptFault}
 use Rattle.rht_cli.specs.declared.form.Form.{Form}
 use Rattle.rht_cli.specs.declared.form.Form.TheVariants.{Run}
 use Rattle.rht_cli.specs.declared.ending.Failure.{Failure}
 use Rattle.rht_cli.specs.declared.ending.Failure.TheVariants.{Fault, Read, Write, Memory}
 use Rattle.rht_cli.specs.Endings.{IsDone, Serves, ending_of, status_of}
-use Rattle.rht_cli.specs.Forms.{Prints}
+use Rattle.rht_cli.specs.Forms.{Prints, IsFaultOf}
 use Rattle.rht_cli.specs.Headline.{FindsAndSpares, Headline}
 
 -- so it is of every run that serves commands
@@ -68,6 +69,17 @@ IsDone-served left sfaults held ofaults form s s' o o' (Err (Fault fault)) serve
 IsDone-served left sfaults held ofaults form s s' o o' (Err Read) serves zero = absurd (omega (arith, zero))
 IsDone-served left sfaults held ofaults form s s' o o' (Err Write) serves zero = absurd (omega (arith, zero))
 IsDone-served left sfaults held ofaults form s s' o o' (Err Memory) serves zero = absurd (omega (arith, zero))
+
+-- and what it has read where it ends with status 2
+pub IsFaultOf-served : {S O : Type 0} (left : S → Option (List ℕ)) (sfaults : S → ℕ) (held : O → Option (List ℕ)) (ofaults : O → ℕ)
+    (form : Form) (s s' : S) (o o' : O) (served : Result (Unit {0}) Failure)
+    → Serves left sfaults held ofaults form s s' o o' served → status_of (ending_of served) ≡ 2
+    → (fault : ScriptFault) × (served ≡ Err (Fault fault)) × IsFaultOf form (left s) (left s') fault × (o' ≡ o)
+IsFaultOf-served left sfaults held ofaults form s s' o o' (Ok all) serves two = absurd (omega (arith, two))
+IsFaultOf-served left sfaults held ofaults form s s' o o' (Err (Fault fault)) serves two = (fault, refl, serves.0, serves.1)
+IsFaultOf-served left sfaults held ofaults form s s' o o' (Err Read) serves two = absurd (omega (arith, two))
+IsFaultOf-served left sfaults held ofaults form s s' o o' (Err Write) serves two = absurd (omega (arith, two))
+IsFaultOf-served left sfaults held ofaults form s s' o o' (Err Memory) serves two = absurd (omega (arith, two))
 
 -- for `run` that is the headline
 pub Headline-served : {S O : Type 0} (left : S → Option (List ℕ)) (sfaults : S → ℕ) (held : O → Option (List ℕ)) (ofaults : O → ℕ)

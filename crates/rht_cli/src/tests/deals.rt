@@ -2,7 +2,8 @@
 //! open who does a command, so there each line is compared but for its worker.
 
 use super::{
-    Case, Meeting, Outside, USAGE, WHOLE, add_lines, assert_cases, assert_left, assert_same, run_on, run_with,
+    Case, Meeting, Outside, USAGE, WHOLE, add_lines, assert_cases, assert_left, assert_same,
+    run_on, run_with,
 };
 use rht_io::Gate;
 use std::alloc::Global;

@@ -7,7 +7,7 @@ use Rattle.rht_cli.specs.declared.form.Form.TheVariants.{Run, Gen, Deal}
 use Rattle.rht_cli.specs.Forms.{form_of, HasInput, IsFaultOf}
 use Rattle.rht_cli.specs.Endings.{Serves, status_of, ending_of, ending_line}
 use Rattle.rht_cli.proofs.Completeness.{served_whole, served_unread, refused_fault}
-use Rattle.rht_cli.proofs.Headlines.{Headline-served}
+use Rattle.rht_cli.proofs.Headlines.{Headline-served, IsFaultOf-served}
 use Rattle.rht_cli.proofs.DealTexts.{DealHeadline-served}
 use Rattle.rht_cli.proofs.program.run.Goals as goal
 
@@ -33,6 +33,25 @@ returns-in-Some-clause-dealt g c zero named =
     DealHeadline-served g.S.Source.left g.S.Source.faults g.O.Sink.held g.O.Sink.faults c.in-Some.form
     c.args.source.now c.serve.new.source c.args.out.now c.serve.new.out c.serve.result c.serve.ensures.served
     same (sym (ap status_of c.ending_of.ensures) ∙ sym c.end.ensures.status ∙ zero)
+
+pub returns-in-Some-clause-no_script : goal.returns-in-Some-clause-no_script
+returns-in-Some-clause-no_script g c two =
+    let form = c.in-Some.form in
+    let is : c.end.result ≡ status_of (ending_of c.serve.result) = c.end.ensures.status
+    ∙ ap status_of c.ending_of.ensures in
+    let fault = IsFaultOf-served g.S.Source.left g.S.Source.faults g.O.Sink.held g.O.Sink.faults form
+    c.args.source.now c.serve.new.source c.args.out.now c.serve.new.out c.serve.result c.serve.ensures.served (sym is ∙ two) in (
+      fault.0,
+      record {
+        form = form;
+        named = sym (ap (λ ws. form_of (map string_bytes ws)) c.deref.ensures.value) ∙ sym (sym c.in-Some.is ∙ c.of.ensures);
+        holds = fault.2;
+      },
+      subst (PutsLine (g.E.Sink.held c.args.err.now) (g.E.Sink.held c.end.new.err)
+          (g.E.Sink.faults c.args.err.now) (g.E.Sink.faults c.end.new.err))
+          (ap ending_line c.ending_of.ensures ∙ ap (λ served. ending_line (ending_of served)) fault.1) c.end.ensures.line,
+      fault.3,
+    )
 
 pub returns-in-Some-clause-served : goal.returns-in-Some-clause-served
 returns-in-Some-clause-served g c form bytes rest named told input reads writes =
