@@ -1,6 +1,7 @@
 -- The book of leases that a worker keeps: what it is after each command, whichever reply that has; which leases a sweep ends; and which
 -- calls of the table a command stands for. No call of the table is spoken of but by its name, and no reply but `Bound`.
-use Rattle.std.specs.Prelude.{◌≡◌, ℕ, ◌&&◌, ◌||◌, ◌==◌, nat_lt, not, if◌then◌else◌, Bool, true, false, List, [], ◌∷◌, ◌++◌, length, map, filter}
+use Rattle.std.specs.Prelude.{◌≡◌, ℕ, ◌&&◌, ◌==◌, nat_lt, not, if◌then◌else◌, Bool, false, List, [], ◌∷◌, ◌++◌, length, map, filter}
+use Rattle.std.specs.List.{list_any}
 use Rattle.rht_model.specs.declared.history.Call.{Call}
 use Rattle.rht_model.specs.declared.history.Call.TheVariants.{Bind, Release}
 use Rattle.rht_model.specs.declared.history.Reply.{Reply}
@@ -41,8 +42,7 @@ is_lease_of port owner lease = lease.port == port && lease.owner == owner
 
 -- there is one among these
 abbrev pub has_lease : Port → ℕ → List Lease → Bool
-has_lease port owner [] = false
-has_lease port owner (lease ∷ leases) = is_lease_of port owner lease || has_lease port owner leases
+has_lease port owner leases = list_any (is_lease_of port owner) leases
 
 -- the lease has ended at this moment: that is later than its last tick
 abbrev pub is_ended : ℕ → Lease → Bool

@@ -2,7 +2,7 @@
 //!
 //! Stands on `rht_run`, by whose `Table::serve` it binds and releases. Read `specs/Books.antt` first.
 
-ghost use Rattle.std.specs.Prelude.{◌≡◌, ◌+◌, ◌<◌, ◌≤◌, ◌^◌, ◌↔◌, [], ◌∷◌, ◌++◌, Some, true, false, length, take, IfOk, IfSome, IsTrue, IsNone, MatchOption, position};
+ghost use Rattle.std.specs.Prelude.{◌≡◌, ◌+◌, ◌<◌, ◌≤◌, ◌^◌, ◌↔◌, [], ◌∷◌, ◌++◌, Some, true, false, length, take, IfOk, IfSome, IsTrue, IsNone, MatchOption, position, vec_len, vec_capacity};
 ghost use Rattle.rht_model.specs.declared.history.Call.TheVariants.{Bind, Release};
 ghost use Rattle.rht_core.specs.Locals.{is_idle};
 ghost use Rattle.rht_core.specs.Replies.{IsReplyTo};
@@ -185,7 +185,7 @@ impl Leases {
         ensures served { HasSwept M.mix_of table.now auto (sweep_calls now self.old.leases) result pass.old pass.new }
     {
         let swept = release_ended(rt, table, pass, &self.leases, now, auto);
-        self.leases.retain(|lease| !is_ended(*lease, now));
+        keep_lasting(&mut self.leases, now);
         swept
     }
 }
@@ -197,6 +197,15 @@ fn first_of(leases: &[Lease], port: Port, owner: u32) -> Option<usize>
     leases
         .iter()
         .position(|lease| lease.port == port && lease.owner == owner)
+}
+
+/// Takes out the leases that have ended at this moment. The others stay in their order.
+fn keep_lasting(leases: &mut Vec<Lease>, now: u64)
+    ensures items { leases.new.items ≡ lasting now leases.old.items }
+    ensures len { vec_len leases.new ≤ vec_len leases.old }
+    ensures capacity { vec_capacity leases.old ≤ vec_capacity leases.new }
+{
+    leases.retain(|lease| !is_ended(*lease, now));
 }
 
 /// Whether the lease has ended at this moment.

@@ -94,7 +94,7 @@ fn commands_below(
     while let Some(next) = lines.next() {
         let (number, line) = next?;
         if !Words::new(line).is_skipped() {
-            commands.push(command(number, table, line)?)?;
+            commands.extend_from_slice(&[command(number, table, line)?])?;
         }
     }
     Ok(commands)
