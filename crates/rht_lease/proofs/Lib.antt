@@ -12,3 +12,7 @@ pub mod SoundScripts
 pub mod PutTexts
 -- what stands at a place of answers and of workers
 pub mod AnswerLines
+-- a book, its calls and its answers with one command more
+pub mod BookLemmas
+-- how a pass gets on by the calls that commands stand for
+pub mod ServedCommands

@@ -89,7 +89,7 @@ side_by_side (pass ∷ passes) (own ∷ answers) = Ok (pass, own) ∷ side_by_si
 pub record HaveLeasedAll {M : Type 0} (mix : ℕ → ℕ → ℕ → ℕ) (config : Config) (t : Table M) (auto : Bool) (commands : List (ℕ × LeaseCall))
     (passes : List (Pass M)) (answers : List (List Answer)) : Type 0 where
   pub config_same : t.env.config ≡ config
-  pub passes : length passes ≡ config.callers
+  pub many : length passes ≡ config.callers
   pub workers : length answers ≡ config.callers
   pub each : (i : ℕ) (default : Pass M) → i < config.callers
       → HasLeased mix t auto (commands_of (i + 1) commands) i (slice_index_or passes i default) (slice_index_or answers i [])

@@ -3,7 +3,7 @@
 //!
 //! Stands on `worker`, and on `rht_run`, whose table all workers share.
 
-ghost use Rattle.std.specs.Prelude.{◌≡◌, ◌≤◌, ◌&&◌, ◌==◌, ℕ, vec_len, IfOk, List, count_by, length};
+ghost use Rattle.std.specs.Prelude.{◌≡◌, ◌+◌, ◌≤◌, vec_len, IfOk, length};
 ghost use Rattle.std.specs.List.{enumerate_from};
 ghost use Rattle.rht_policy.specs.Mix.{mix_named};
 ghost use Rattle.rht_run.specs.Passes.{IsNew, AreNew};

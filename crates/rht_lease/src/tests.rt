@@ -1,0 +1,1 @@
+//! What no clause says: that lease scripts are read at all.
