@@ -16,3 +16,9 @@ pub mod AnswerLines
 pub mod BookLemmas
 -- how a pass gets on by the calls that commands stand for
 pub mod ServedCommands
+-- a worker with one command more
+pub mod WorkedCommands
+-- what all workers leave is a run
+pub mod LeaseRuns
+-- a sweep over a list of leases, with one more
+pub mod SweptLeases

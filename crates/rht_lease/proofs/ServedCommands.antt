@@ -1,6 +1,6 @@
 -- How a pass gets on by the calls that commands stand for: what they have added to its finished calls is served behind the others. So does a
 -- sweep, release by release, each of which is counted by its reply.
-use Rattle.std.proofs.Common.{◌≡◌, ℕ, zero, suc, ◌+◌, ◌<◌, ◌≤◌, Bool, true, false, cond, List, [], ◌∷◌, ◌++◌, length, refl, sym, ◌∙◌, ap, subst, append_assoc, arith}
+use Rattle.std.proofs.Common.{◌≡◌, ℕ, ◌+◌, Bool, true, false, cond, List, [], ◌∷◌, ◌++◌, refl, sym, ◌∙◌, ap, subst, append_assoc, arith}
 use Rattle.std.specs.Prelude.{Option}
 use Rattle.std.specs.List.{AllByRecursion}
 use Rattle.std.proofs.lemmas.List.{append-nil, length_push}
@@ -150,10 +150,10 @@ IsOwnReply-served mix t auto call reply owners before now plain has owners_are =
 
 -- ---- a sweep
 
-released : Ending → ℕ
+abbrev released : Ending → ℕ
 released ending = cond (is_released ending.answer.reply) 1 0
 
-absent : Ending → ℕ
+abbrev absent : Ending → ℕ
 absent ending = cond (is_absent ending.answer.reply) 1 0
 
 same_swept : (r a r' a' : ℕ) → r ≡ r' → a ≡ a'
@@ -171,7 +171,8 @@ swept_of-push endings replies.Absent owners pairs =
     same_swept _ _ _ _ (omega (arith, sum_by-append released endings last)) (omega (arith, sum_by-append absent endings last))
 swept_of-push endings other owners pairs =
     let last = replied other owners pairs ∷ [] in
-    same_swept _ _ _ _ (omega (arith, sum_by-append released endings last)) (omega (arith, sum_by-append absent endings last))
+    same_swept (swept_of endings).released (swept_of endings).absent (swept_of (endings ++ last)).released
+    (swept_of (endings ++ last)).absent (omega (arith, sum_by-append released endings last)) (omega (arith, sum_by-append absent endings last))
 
 -- and by one of the two counts
 counting-each : (swept : Swept) (port owner : ℕ) (reply : Reply) → IsReplyTo (Release port owner) reply
@@ -209,3 +210,11 @@ module _ {M : Type 0} (mix : ℕ → ℕ → ℕ → ℕ) (t : Table M) (auto : 
         (let all = has.each in
         omega (arith, all, counting-each swept port owner reply right, length_push calls (Release port owner)));
   }
+
+  -- the same under other names
+  pub HasSwept-same : (calls more : List Call) (swept now : Swept) (before after last : Pass M) → more ≡ calls → now ≡ swept → last ≡ after
+      → HasSwept mix t auto calls swept before after → HasSwept mix t auto more now before last
+  HasSwept-same calls more swept now before after last calls_are swept_is pass_is has =
+      subst (λ (p : Pass M). HasSwept mix t auto more now before p) (sym pass_is)
+      (subst (λ (s : Swept). HasSwept mix t auto more s before after) (sym swept_is)
+      (subst (λ cs. HasSwept mix t auto cs swept before after) (sym calls_are) has))

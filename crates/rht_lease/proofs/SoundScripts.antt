@@ -1,12 +1,13 @@
 -- A lease script that is read can be run: its config is settled, each command is one of the workers' and is such as lease scripts have, and
 -- there are no more commands than lines.
-use Rattle.std.proofs.Common.{◌≡◌, ℕ, ◌+◌, ◌<◌, ◌≤◌, ◌&&◌, nat_lt, if◌then◌else◌, Bool, true, false, Result, Ok, Err, List, [], ◌∷◌, length, codes, refl, sym, subst, arith}
+use Rattle.std.proofs.Common.{◌≡◌, ℕ, zero, suc, get_or, ◌+◌, ◌<◌, ◌≤◌, ◌&&◌, nat_lt, if◌then◌else◌, Bool, true, false, Result, Ok, Err, List, [], ◌∷◌, length, codes, refl, sym, subst, arith}
 use Rattle.std.specs.Prelude.{IfOk}
-use Rattle.std.specs.List.{AllByRecursion}
+use Rattle.std.specs.List.{AllByRecursion, list_all}
 use Rattle.std.proofs.lemmas.Bool.{and_parts}
 use Rattle.std.proofs.lemmas.List.Elements.{All-from_recursion}
 use Rattle.std.proofs.lemmas.List.Sums.{list_all-from_AllPass}
 use Rattle.std.proofs.lemmas.Result.{IfOk-at_ok}
+use Rattle.rht_words.specs.declared.config.Config.{Config}
 use Rattle.rht_words.specs.declared.limits.Limits.{Limits}
 use Rattle.rht_words.specs.Settled.{IsSettled}
 use Rattle.rht_model.specs.declared.history.Call.{Call}
@@ -193,3 +194,16 @@ IsSoundLeases-read bytes script read =
           list_all-from_AllPass (is_sound_command script.config) script.commands.items
           (All-from_recursion (λ command. is_sound_command script.config command ≡ true) script.commands.items are.commands);
     }
+
+-- ---- what a script that can be run says of each command
+
+-- by induction over the commands
+pub sound-at : (config : Config) (commands : List (ℕ × LeaseCall)) (i : ℕ) (default : ℕ × LeaseCall)
+    → list_all (is_sound_command config) commands ≡ true → i < length commands → is_sound_ask (get_or commands i default).1 ≡ true
+sound-at config [] i default all within = absurd (omega (arith, within))
+sound-at config (command ∷ commands) zero default all within =
+    let first = (and_parts (is_sound_command config command) (list_all (is_sound_command config) commands) all).0 in
+    (and_parts (is_within (worker_limits config) command.0) (is_sound_ask command.1) first).1
+sound-at config (command ∷ commands) (suc i) default all within =
+    sound-at config commands i default
+    (and_parts (is_sound_command config command) (list_all (is_sound_command config) commands) all).1 (omega (arith, within))

@@ -121,7 +121,7 @@ module _ {M : Type 0} (mix : ℕ → ℕ → ℕ → ℕ) (config : Config) (t :
   HaveServedAll-passes pass among =
       let at = Among-place pass passes among in
       let below = at.1 in
-      let many = all.passes in
+      let many = all.many in
       subst (IsPassOf mix t) (sym at.2) (all.each at.0 pass (omega (arith, below, many))).pass_of
 
   -- the caller of each worker is in the run as the worker's pass says
@@ -132,7 +132,7 @@ module _ {M : Type 0} (mix : ℕ → ℕ → ℕ → ℕ) (config : Config) (t :
     serving : (caller : ℕ) (default : Pass M) → caller < config.callers
         → IsServing w auto caller (calls_of (caller + 1) commands) (get_or endings caller [])
     serving caller default below =
-        let many = all.passes in
+        let many = all.many in
         let pass = get_or passes caller default in
         let served = all.each caller default below in
         let among = place-Among passes caller default (omega (arith, below, many)) in
@@ -160,7 +160,7 @@ module _ {M : Type 0} (mix : ℕ → ℕ → ℕ → ℕ) (config : Config) (t :
       admitted = end.end.admitted;
       workers = all.workers;
       each = λ caller below.
-          let many = all.passes in
+          let many = all.many in
           serving caller (some-pass (omega (arith, below, many)) passes refl) below;
       closed_is = subst (λ (words : List ℕ). IsClosedOf t.env.geometry words closed) (sym end.end.words_are) end.closed_of;
     }

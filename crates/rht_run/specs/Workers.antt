@@ -25,7 +25,7 @@ pub record HaveServedAll {M : Type 0} (mix : ℕ → ℕ → ℕ → ℕ) (confi
     (passes : List (Pass M)) (endings : List (List Ending))
     : Type 0 where
   pub config_same : t.env.config ≡ config
-  pub passes : length passes ≡ config.callers
+  pub many : length passes ≡ config.callers
   pub workers : length endings ≡ config.callers
   pub each : (i : ℕ) (default : Pass M) → i < config.callers
       → HasServedCalls mix t auto i (calls_of (i + 1) commands) (slice_index_or passes i default) (slice_index_or endings i [])
