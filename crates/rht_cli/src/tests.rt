@@ -18,6 +18,7 @@ mod claims;
 mod deals;
 mod growth;
 mod hostile;
+mod leases;
 mod moves;
 mod walks;
 

@@ -160,31 +160,36 @@ commands_of-other worker commands command other =
     ∙ ap (λ mine. commands_of worker commands ++ cond mine (command.1 ∷ []) []) other
     ∙ append-nil (commands_of worker commands)
 
--- it asks for as many leases as there are lease commands of its own
-pub leases-commands_of : (worker : ℕ) (commands : List (ℕ × LeaseCall))
-    → count_by is_lease (commands_of worker commands) ≡ own_leases worker commands
-leases-commands_of worker [] = refl
-leases-commands_of worker (command ∷ commands) =
-    by_test (command.0 == worker) refl (leases-commands_of worker commands)
+-- how many of a worker's commands pass a test
+pub count-commands_of : (test : LeaseCall → Bool) (worker : ℕ) (commands : List (ℕ × LeaseCall))
+    → count_by test (commands_of worker commands) ≡ count_by (λ command. (command.0 == worker) && test command.1) commands
+count-commands_of test worker [] = refl
+count-commands_of test worker (command ∷ commands) =
+    by_test (command.0 == worker) refl (count-commands_of test worker commands)
   where
     by_test : (mine : Bool) → (command.0 == worker) ≡ mine
-        → count_by is_lease (commands_of worker commands) ≡ own_leases worker commands
-        → count_by is_lease (cond (command.0 == worker) (command.1 ∷ commands_of worker commands) (commands_of worker commands))
-        ≡ own_leases worker (command ∷ commands)
+        → count_by test (commands_of worker commands) ≡ count_by (λ c. (c.0 == worker) && test c.1) commands
+        → count_by test (cond (command.0 == worker) (command.1 ∷ commands_of worker commands) (commands_of worker commands))
+        ≡ count_by (λ c. (c.0 == worker) && test c.1) (command ∷ commands)
     by_test true mine behind =
-        let first = sum_by-cons (λ (c : ℕ × LeaseCall). one_if ((c.0 == worker) && is_lease c.1)) command commands in
-        let own : count_by is_lease (cond (command.0 == worker) (command.1 ∷ commands_of worker commands) (commands_of worker commands))
-        ≡ one_if (is_lease command.1) + count_by is_lease (commands_of worker commands) =
-        ap (λ b. count_by is_lease (cond b (command.1 ∷ commands_of worker commands) (commands_of worker commands))) mine
-        ∙ sum_by-cons (λ a. one_if (is_lease a)) command.1 (commands_of worker commands) in
-        let here : one_if ((command.0 == worker) && is_lease command.1) ≡ one_if (is_lease command.1) =
-        ap (λ b. one_if (b && is_lease command.1)) mine in
+        let first = sum_by-cons (λ (c : ℕ × LeaseCall). one_if ((c.0 == worker) && test c.1)) command commands in
+        let own : count_by test (cond (command.0 == worker) (command.1 ∷ commands_of worker commands) (commands_of worker commands))
+        ≡ one_if (test command.1) + count_by test (commands_of worker commands) =
+        ap (λ b. count_by test (cond b (command.1 ∷ commands_of worker commands) (commands_of worker commands))) mine
+        ∙ sum_by-cons (λ a. one_if (test a)) command.1 (commands_of worker commands) in
+        let here : one_if ((command.0 == worker) && test command.1) ≡ one_if (test command.1) =
+        ap (λ b. one_if (b && test command.1)) mine in
         omega (arith, first, own, here, behind)
     by_test false mine behind =
-        let first = sum_by-cons (λ (c : ℕ × LeaseCall). one_if ((c.0 == worker) && is_lease c.1)) command commands in
-        let own : count_by is_lease (cond (command.0 == worker) (command.1 ∷ commands_of worker commands) (commands_of worker commands))
-        ≡ count_by is_lease (commands_of worker commands) =
-        ap (λ b. count_by is_lease (cond b (command.1 ∷ commands_of worker commands) (commands_of worker commands))) mine in
-        let here : one_if ((command.0 == worker) && is_lease command.1) ≡ 0 =
-        ap (λ b. one_if (b && is_lease command.1)) mine in
+        let first = sum_by-cons (λ (c : ℕ × LeaseCall). one_if ((c.0 == worker) && test c.1)) command commands in
+        let own : count_by test (cond (command.0 == worker) (command.1 ∷ commands_of worker commands) (commands_of worker commands))
+        ≡ count_by test (commands_of worker commands) =
+        ap (λ b. count_by test (cond b (command.1 ∷ commands_of worker commands) (commands_of worker commands))) mine in
+        let here : one_if ((command.0 == worker) && test command.1) ≡ 0 =
+        ap (λ b. one_if (b && test command.1)) mine in
         omega (arith, first, own, here, behind)
+
+-- so it asks for as many leases as there are lease commands of its own
+pub leases-commands_of : (worker : ℕ) (commands : List (ℕ × LeaseCall))
+    → count_by is_lease (commands_of worker commands) ≡ own_leases worker commands
+leases-commands_of worker commands = count-commands_of is_lease worker commands

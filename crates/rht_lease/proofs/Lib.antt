@@ -22,3 +22,7 @@ pub mod WorkedCommands
 pub mod LeaseRuns
 -- a sweep over a list of leases, with one more
 pub mod SweptLeases
+-- what follows for books
+pub mod BookLaws
+-- what follows for the calls that commands stand for
+pub mod ScriptLaws
