@@ -7,7 +7,9 @@ use Rattle.rht_lease.specs.declared.lease.LeaseScript.{LeaseScript}
 use Rattle.rht_lease.specs.declared.outcome.LeaseOutcome.{LeaseOutcome}
 use Rattle.rht_lease.specs.Answers.{Answer, all_calls}
 use Rattle.rht_lease.specs.Leasing.{IsLeasedBy, IsLeasing}
-use Rattle.rht_lease.specs.Reading.{SaidLeases}
+use Rattle.rht_lease.specs.Reading.{said_by_leases}
+use Rattle.rht_lease.specs.Scripts.{IsSoundLeases}
+use Rattle.rht_lease.proofs.SoundScripts.{commands_of-one}
 use Rattle.rht_lease.specs.Text.{lease_text}
 use Rattle.rht_cli.specs.declared.form.Form.TheVariants.{Lease}
 use Rattle.rht_cli.specs.Input.{IsLeaseRead}
@@ -25,12 +27,18 @@ IsLeasing-hash hash script outcome is leased = record {
       leased.served;
 }
 
-pub Prints-leased : (left left_after : Option (List ℕ)) (said : SaidLeases) (answers : List (List Answer)) (closed : Closed)
-    → IsLeaseRead left left_after said → IsLeasing said.config said.auto said.commands answers closed
+pub Prints-leased : (left left_after : Option (List ℕ)) (script : LeaseScript) (answers : List (List Answer)) (closed : Closed)
+    → IsSoundLeases script → IsLeaseRead left left_after (said_by_leases script) → IsLeasing script.config script.auto script.commands.items answers closed
     → Prints Lease left left_after (lease_text answers closed)
 unfolding Prints
-Prints-leased left left_after said answers closed read leasing = record {
-  said = said;
+Prints-leased left left_after script answers closed sound read leasing = record {
+  said = said_by_leases script;
   read = read;
-  is_text = record { answers = answers; closed = closed; leasing = leasing; written = refl };
+  is_text = record {
+    answers = answers;
+    closed = closed;
+    leasing = leasing;
+    in_script_order = λ one. commands_of-one script.config script.commands.items one sound.commands;
+    written = refl;
+  };
 }

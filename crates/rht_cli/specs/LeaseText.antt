@@ -14,5 +14,7 @@ pub record IsLeaseText (said : SaidLeases) (text : List ℕ) : Type 0 where
   pub closed : Closed
   -- they are those of a run on a table of the script's config
   pub leasing : IsLeasing said.config said.auto said.commands answers closed
+  -- where there is one worker its commands are all, in the order of the script
+  pub in_script_order : said.config.callers ≡ 1 → commands_of 1 said.commands ≡ map (λ command. command.1) said.commands
   -- and they are what is printed
   pub written : text ≡ lease_text answers closed

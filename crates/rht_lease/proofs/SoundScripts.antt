@@ -1,9 +1,9 @@
 -- A lease script that is read can be run: its config is settled, each command is one of the workers' and is such as lease scripts have, and
 -- there are no more commands than lines.
-use Rattle.std.proofs.Common.{◌≡◌, ℕ, zero, suc, get_or, ◌+◌, ◌<◌, ◌≤◌, ◌&&◌, nat_lt, if◌then◌else◌, Bool, true, false, Result, Ok, Err, List, [], ◌∷◌, length, codes, refl, sym, subst, arith}
+use Rattle.std.proofs.Common.{◌≡◌, ℕ, zero, suc, get_or, ◌+◌, ◌<◌, ◌≤◌, ◌&&◌, nat_lt, nat_le, if◌then◌else◌, Bool, true, false, cond, Result, Ok, Err, List, [], ◌∷◌, length, map, codes, eq-eqb, refl, sym, ◌∙◌, ap, subst, arith}
 use Rattle.std.specs.Prelude.{IfOk}
 use Rattle.std.specs.List.{AllByRecursion, list_all}
-use Rattle.std.proofs.lemmas.Bool.{and_parts}
+use Rattle.std.proofs.lemmas.Bool.{and_parts, leb-true}
 use Rattle.std.proofs.lemmas.List.Elements.{All-from_recursion}
 use Rattle.std.proofs.lemmas.List.Sums.{list_all-from_AllPass}
 use Rattle.std.proofs.lemmas.Result.{IfOk-at_ok}
@@ -25,6 +25,7 @@ use Rattle.rht_script.proofs.SayableScripts.{IsSettledTable, HasForm, table_sett
 use Rattle.rht_lease.specs.declared.lease.LeaseCall.{LeaseCall}
 use Rattle.rht_lease.specs.declared.lease.LeaseCall.TheVariants as asks
 use Rattle.rht_lease.specs.declared.lease.LeaseScript.{LeaseScript}
+use Rattle.rht_lease.specs.Answers.{commands_of}
 use Rattle.rht_lease.specs.Scripts.{is_plain_call, is_sound_ask, is_sound_command, IsSoundLeases}
 use Rattle.rht_lease.specs.LeaseLines.{lease_of_words, grant_of, renew_of, cancel_of, sweep_of, own_of, begins_so, has_own_verb, asked_of, own_line_of, plain_of, lease_line_of, IsSoundTable, coded_at}
 use Rattle.rht_lease.specs.Reading.{SaidLeases, saying, commands_from, leases_below, leases_from, lease_reading_of, said_by_leases, IsLeaseScript}
@@ -207,3 +208,17 @@ sound-at config (command ∷ commands) zero default all within =
 sound-at config (command ∷ commands) (suc i) default all within =
     sound-at config commands i default
     (and_parts (is_sound_command config command) (list_all (is_sound_command config) commands) all).1 (omega (arith, within))
+
+-- with one worker all commands are its own, in their order
+pub commands_of-one : (config : Config) (commands : List (ℕ × LeaseCall)) → config.callers ≡ 1
+    → list_all (is_sound_command config) commands ≡ true → commands_of 1 commands ≡ map (λ command. command.1) commands
+commands_of-one config [] one all = refl
+commands_of-one config (command ∷ commands) one all =
+    let parts = and_parts (is_sound_command config command) (list_all (is_sound_command config) commands) all in
+    let within = (and_parts (is_within (worker_limits config) command.0) (is_sound_ask command.1) parts.0).0 in
+    let bounds = and_parts (nat_le 1 command.0) (nat_le command.0 config.callers) within in
+    let low = leb-true 1 command.0 bounds.0 in
+    let high = leb-true command.0 config.callers bounds.1 in
+    let own : command.0 ≡ 1 = omega (arith, low, high, one) in
+    ap (λ b. cond b (command.1 ∷ commands_of 1 commands) (commands_of 1 commands)) (eq-eqb command.0 1 own)
+    ∙ ap (λ l. command.1 ∷ l) (commands_of-one config commands one parts.1)

@@ -1,6 +1,6 @@
 use Rattle.std.proofs.Common.{◌≡◌, ◌<◌, ◌≤◌, ◌^◌, length, arith}
 use Rattle.std.proofs.lemmas.Result.{err_from_is_err_and}
-use Rattle.rht_lease.specs.Reading.{lease_reading_of, said_by_leases}
+use Rattle.rht_lease.specs.Reading.{lease_reading_of}
 use Rattle.rht_lease.specs.Text.{lease_text}
 use Rattle.rht_cli.specs.declared.form.Form.TheVariants.{Lease}
 use Rattle.rht_cli.proofs.ToldInput.{IsFaultOf-leases}
@@ -16,6 +16,13 @@ returns-in_err-script g c =
     c.read_leasing.new.source lease_reading_of (IsFaultOf-leases (g.S.Source.left c.args.source.now) (g.S.Source.left c.read_leasing.new.source))
     tt c.args.out.now c.in_err-script.field-0.0 c.in_err-script.ensures.unread)
 
+pub write_leases-requires : goal.write_leases-requires
+write_leases-requires g c =
+    let outcome = c.in_ok-outcome.outcome in
+    let workers = c.in_ok-outcome.ensures.answered.workers in
+    let callers = c.in_ok-script.ensures.sound.settled.geometry.callers_within.1 in
+    omega (arith, workers, callers, outcome.replies.ok.0)
+
 pub returns : goal.returns
 returns g c =
     let left = g.S.Source.left in
@@ -24,5 +31,5 @@ returns g c =
     rw c.served_by.ensures
     (Serves-put left g.S.Source.faults g.O.Sink.held g.O.Sink.faults Lease c.args.source.now
     c.read_leasing.new.source c.args.out.now c.write_leases.new.out (lease_text outcome.replies.items outcome.closed) c.write_leases.result
-    (Prints-leased (left c.args.source.now) (left c.read_leasing.new.source) (said_by_leases script) outcome.replies.items outcome.closed
-    c.in_ok-script.ensures.read c.in_ok-outcome.ensures) c.write_leases.ensures)
+    (Prints-leased (left c.args.source.now) (left c.read_leasing.new.source) script outcome.replies.items outcome.closed
+    c.in_ok-script.ensures.sound c.in_ok-script.ensures.read c.in_ok-outcome.ensures) c.write_leases.ensures)
