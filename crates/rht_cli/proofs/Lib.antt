@@ -16,5 +16,7 @@ pub mod ReplayTexts
 pub mod VerdictTexts
 -- what was dealt is printed as a text of the form `deal`
 pub mod DealTexts
+-- what a lease script's commands were answered is printed as a text of the form `lease`
+pub mod LeaseTexts
 -- how a form that reads its input is served
 pub mod ServedScripts

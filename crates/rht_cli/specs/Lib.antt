@@ -8,6 +8,8 @@ pub mod GenText
 pub mod ReplayText
 -- the text of a script that was dealt
 pub mod DealText
+-- the text of a lease script's commands
+pub mod LeaseText
 -- the text of the verdict on a claimed history
 pub mod VerdictText
 -- the command forms: their words, their input and their text

@@ -1,8 +1,8 @@
 //! The top call: the program from bytes to bytes.
 //!
 //! Stands on the forms, the reader of the input, the script's writer, the registry whose workers do a
-//! script's commands on a table or which replays it, the closing of that table, the dealing of a script, the judge
-//! of claimed histories, and the endings. Begin with the clauses of `run`: they say what each status means.
+//! script's commands on a table or which replays it, the closing of that table, the dealing of a script, the doing
+//! of a lease script, the judge of claimed histories, and the endings. Begin with the clauses of `run`: they say what each status means.
 
 ghost use Rattle.std.specs.Prelude.{◌≡◌, ◌≢◌, ◌≤◌, ◌↔◌, ◌⊎◌, None, Some, Option, List, ℕ, string_bytes, map, IfOk};
 ghost use Rattle.rht_io.specs.Told.{Rose, PutsLine};
@@ -15,8 +15,10 @@ ghost use Rattle.rht_run.specs.ServedRuns.{tag_of, HasRun};
 ghost use Rattle.rht_script.specs.Dealt.{IsDealtScript};
 ghost use Rattle.rht_registry.specs.Players.{IsReplayed};
 ghost use Rattle.rht_deal.specs.Dealing.{IsDealing};
+ghost use Rattle.rht_lease.specs.Leasing.{IsLeasing};
+ghost use Rattle.rht_lease.specs.Scripts.{IsSoundLeases};
 ghost use Rattle.rht_cli.specs.declared.form.Form.{Form};
-ghost use Rattle.rht_cli.specs.declared.form.Form.TheVariants.{Run, Replay, Gen, Deal, Check};
+ghost use Rattle.rht_cli.specs.declared.form.Form.TheVariants.{Run, Replay, Gen, Deal, Lease, Check};
 ghost use Rattle.rht_cli.specs.Forms.{form_of, HasForm, ReadsInput, HasInput, IsFaultOf};
 ghost use Rattle.rht_cli.specs.Endings.{IsDone, IsCutShort, Serves, ServesUnread, served_by, replayed_by, ending_of, status_line};
 ghost use Rattle.rht_cli.specs.Headline.{Headline};
@@ -24,10 +26,11 @@ ghost use Rattle.rht_cli.specs.DealHeadline.{DealHeadline};
 
 use crate::ending::{Ending, Failure};
 use crate::form::Form;
-use crate::input::{read_claimed, read_deal, read_script};
+use crate::input::{read_claimed, read_deal, read_leasing, read_script};
 use rht_check::{check, write_verdict};
 use rht_deal::{Dealt, run_dealt, write_dealt};
 use rht_io::{Failed, Gate, Sink, Source};
+use rht_lease::{LeaseOutcome, LeaseScript, run_leases, write_leases};
 use rht_model::{Closed, Replies};
 use rht_policy::{Lookup3, Low, Mix};
 use rht_registry::{ReplayError, replay, run_workers};
@@ -152,6 +155,7 @@ fn serve<R: Threads + Wait + Sync, S: Source, O: Sink, G: Gate + Sync>(
         Form::Replay => serve_replay(alloc, source, out),
         Form::Gen { number } => serve_gen(rt, alloc, number, out, gate),
         Form::Deal => serve_deal(rt, alloc, source, out, gate),
+        Form::Lease => serve_lease(rt, alloc, source, out, gate),
         Form::Check => serve_check(alloc, source, out),
     }
 }
@@ -213,6 +217,21 @@ fn serve_deal<R: Threads + Wait + Sync, S: Source, O: Sink, G: Gate + Sync>(
     served_by(write_dealt(out, &dealt))
 }
 
+/// Reads a lease script, does its commands, and prints what they are answered.
+fn serve_lease<R: Threads + Wait + Sync, S: Source, O: Sink, G: Gate + Sync>(
+    rt: &R,
+    alloc: Global,
+    source: &mut S,
+    out: &mut O,
+    gate: &G,
+) -> Result<(), Failure>
+    ensures { Serves S.left S.faults O.held O.faults Lease source.old source.new out.old out.new result }
+{
+    let script = read_leasing(alloc, source)?;
+    let outcome = lease_hashed(rt, alloc, &script, gate)?;
+    served_by(write_leases(out, &outcome))
+}
+
 /// Reads a claimed history, and prints the verdict on it.
 fn serve_check<S: Source, O: Sink>(
     alloc: Global,
@@ -252,6 +271,24 @@ fn deal_hashed<R: Threads + Wait + Sync, G: Gate + Sync>(
     match script.config.hash {
         Hash::Mix => run_dealt::<Lookup3, _, _>(rt, alloc, script, gate),
         Hash::Low => run_dealt::<Low, _, _>(rt, alloc, script, gate),
+    }
+}
+
+/// Does a lease script's commands on a table whose ports are hashed as its config says. The one refusal is
+/// want of memory.
+fn lease_hashed<R: Threads + Wait + Sync, G: Gate + Sync>(
+    rt: &R,
+    alloc: Global,
+    script: &LeaseScript,
+    gate: &G,
+) -> Result<LeaseOutcome, AllocError>
+    requires { IsSoundLeases script.now }
+    ensures { IfOk result (λ outcome. IsLeasing script.now.config script.now.auto script.now.commands.items outcome.replies.items
+        outcome.closed) }
+{
+    match script.config.hash {
+        Hash::Mix => run_leases::<Lookup3, _, _>(rt, alloc, script, gate),
+        Hash::Low => run_leases::<Low, _, _>(rt, alloc, script, gate),
     }
 }
 
