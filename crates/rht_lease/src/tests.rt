@@ -7,20 +7,30 @@ use crate::replies::LeaseReplies;
 use rht_model::{Call, Reply};
 use rht_script::{ReadError, ScriptFault};
 use rht_words::Port;
+use std::alloc::Global;
+use std::fmt::Debug;
+use std::process::Abort;
 use std::test::Fail;
 
+/// Asserts that what was found is what is wanted.
+fn assert_same<T: Copy + Debug + PartialEq>(rt: &impl Abort, found: T, want: T) {
+    assert_eq!(rt; found, want);
+}
+
 /// Asserts that a line behind a table line of form 2 with two workers is read as this command.
-fn assert_read(rt: &HostRuntime, line: &str, want: (u32, LeaseCall)) -> Result<(), Fail> {
-    let text = format!(in rt.alloc(); "table single workers 2 form 2\n{line}\n")?;
-    match read_leases(rt.alloc(), text.as_bytes()) {
-        Ok(script) => {
-            assert_eq!(rt; script.commands.len(), 1);
-            assert!(rt; script.is_sound());
-            assert!(rt; script.commands[0] == want);
-            Ok(())
-        }
-        Err(_) => Err("it is a lease script".into()),
-    }
+fn assert_read(
+    rt: &impl Abort,
+    alloc: Global,
+    line: &str,
+    want: (u32, LeaseCall),
+) -> Result<(), Fail> {
+    let text = format!(in alloc; "table single workers 2 form 2\n{line}\n")?;
+    let script = read_leases(alloc, text.as_bytes())?;
+    assert!(rt; script.is_sound());
+    assert_same(rt, script.commands.len(), 1);
+    assert!(rt; 0 < script.commands.len());
+    assert_same(rt, script.commands[0], want);
+    Ok(())
 }
 
 #[test]
@@ -95,22 +105,21 @@ fn commands_are_read(rt: HostRuntime) -> Result<(), Fail> {
         ("1 count", (1, LeaseCall::Plain(Call::Count))),
     ];
     for (line, want) in cases {
-        assert_read(&rt, line, want)?;
+        assert_read(&rt, rt.alloc(), line, want)?;
     }
     Ok(())
 }
 
-/// Asserts that the bytes have this first fault.
-fn assert_fault(rt: &HostRuntime, text: &str, line: u32, cause: u8) {
-    let fault = ReadError::Fault(ScriptFault { line, cause });
-    match read_leases(rt.alloc(), text.as_bytes()) {
-        Ok(_) => assert!(rt; false, "{text}"),
-        Err(error) => assert!(rt; error == fault, "{text}"),
+/// The line of the bytes' first fault, and its cause.
+fn first_fault(alloc: Global, text: &str) -> Option<(u32, u8)> {
+    match read_leases(alloc, text.as_bytes()) {
+        Err(ReadError::Fault(ScriptFault { line, cause })) => Some((line, cause)),
+        _ => None,
     }
 }
 
 #[test]
-fn other_bytes_have_a_first_fault(rt: HostRuntime) {
+fn other_bytes_have_a_first_fault(rt: HostRuntime) -> Result<(), Fail> {
     // The text behind `table single`, the line at fault, and its cause: 1, no table line; 2, an unknown or
     // missing word; 3, no number; 4, a number out of range.
     let cases = [
@@ -141,13 +150,17 @@ fn other_bytes_have_a_first_fault(rt: HostRuntime) {
         ("# a comment\n\n1 count\n1 sweep x", 5, 3),
     ];
     for (text, line, cause) in cases {
-        match format!(in rt.alloc(); "table single\n{text}\n") {
-            Ok(script) => assert_fault(&rt, script.as_str(), line, cause),
-            Err(_) => assert!(rt; false),
-        }
+        let script = format!(in rt.alloc(); "table single\n{text}\n")?;
+        let found = first_fault(rt.alloc(), script.as_str());
+        assert_same(&rt, (text, found), (text, Some((line, cause))));
     }
-    assert_fault(&rt, "1 lease 80 7 1\n", 1, 1);
-    assert_fault(&rt, "", 1, 1);
+    assert_same(
+        &rt,
+        first_fault(rt.alloc(), "1 lease 80 7 1\n"),
+        Some((1, 1)),
+    );
+    assert_same(&rt, first_fault(rt.alloc(), ""), Some((1, 1)));
+    Ok(())
 }
 
 #[test]
@@ -172,12 +185,13 @@ fn answers_are_kept(rt: HostRuntime) -> Result<(), Fail> {
         LeaseReply::NoLease,
         LeaseReply::Plain(Reply::Missing),
     ];
-    assert_eq!(rt; replies.len(), want.len());
+    assert_same(&rt, replies.len(), want.len());
     for i in 0..want.len() {
         assert!(rt; i < replies.len());
-        assert!(rt; replies.reply(i) == want[i]);
-        let owners: &[u32] = if i == 0 { &[7, 9] } else { &[] };
-        assert_eq!(rt; replies.owners(i), owners);
+        assert_same(&rt, (i, replies.reply(i)), (i, want[i]));
     }
+    assert!(rt; 1 < replies.len());
+    assert_same(&rt, replies.owners(0), &[7, 9]);
+    assert_same(&rt, replies.owners(1), &[]);
     Ok(())
 }

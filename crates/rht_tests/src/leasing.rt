@@ -8,9 +8,7 @@ ghost use Rattle.rht_run.specs.Passes.{IsPassOf, AreNew, IsNew};
 use crate::asserts::{assert_bound, assert_same};
 use crate::run::SMALL;
 use rht_io::{Gate, NoGate};
-use rht_lease::{
-    LeaseOutcome, LeaseReplies, LeaseReply, Leases, Swept, read_leases, run_leases,
-};
+use rht_lease::{LeaseOutcome, LeaseReplies, LeaseReply, Leases, Swept, read_leases, run_leases};
 use rht_model::Reply;
 use rht_policy::{Lookup3, Low, Mix};
 use rht_run::{Pass, Table};
@@ -61,7 +59,8 @@ fn assert_answers(rt: &impl Abort, answers: &LeaseReplies, want: &[LeaseReply]) 
 #[test]
 fn leases_end(rt: HostRuntime) -> Result<(), Fail> {
     // At its last tick a lease holds still. Renewed to 30 it holds at 25; the other one doesn't.
-    let text = "table single\n1 lease 80 1 10\n1 lease 81 1 20\n1 bind 82 1\n1 sweep 10\n1 renew 81 1 30\n1 sweep 25\n1 sweep 31\n1 find 82\n1 renew 80 1 40\n";
+    let text =
+        "table single\n1 lease 80 1 10\n1 lease 81 1 20\n1 bind 82 1\n1 sweep 10\n1 renew 81 1 30\n1 sweep 25\n1 sweep 31\n1 find 82\n1 renew 80 1 40\n";
     let outcome = lease(&rt, rt.alloc(), text, &NoGate)?;
     assert_same(&rt, outcome.replies.len(), 1);
     assert_answers(
@@ -88,7 +87,8 @@ fn books_keep_what_was_granted(rt: HostRuntime) -> Result<(), Fail> {
     // Two leases of one pair in a table of lists: a renew changes the first of them alone, and so does a cancel.
     // An earlier last tick ends a lease earlier. A refused bind leaves no lease, and a binding that is gone leaves
     // its lease, whose release finds nothing. The greatest moment is later than any other one alone.
-    let text = "table listed\n1 lease 80 1 10\n1 lease 80 1 20\n1 renew 80 1 30\n1 sweep 25\n1 cancel 80 1\n1 cancel 80 1\n1 lease 81 2 50\n1 release 81 2\n1 cancel 81 2\n1 lease 82 3 18446744073709551615\n1 lease 83 4 18446744073709551614\n1 sweep 18446744073709551615\n1 renew 82 3 5\n1 sweep 6\n1 renew 82 3 7\n";
+    let text =
+        "table listed\n1 lease 80 1 10\n1 lease 80 1 20\n1 renew 80 1 30\n1 sweep 25\n1 cancel 80 1\n1 cancel 80 1\n1 lease 81 2 50\n1 release 81 2\n1 cancel 81 2\n1 lease 82 3 18446744073709551615\n1 lease 83 4 18446744073709551614\n1 sweep 18446744073709551615\n1 renew 82 3 5\n1 sweep 6\n1 renew 82 3 7\n";
     let outcome = lease(&rt, rt.alloc(), text, &NoGate)?;
     assert_same(&rt, outcome.replies.len(), 1);
     assert_answers(
@@ -145,7 +145,8 @@ impl Gate for InTurn {
 #[test]
 fn workers_lease_in_turn(rt: HostRuntime) -> Result<(), Fail> {
     // The lines stand in the order of the turns. A worker's sweep ends the leases of its own book alone.
-    let text = "table single workers 2\n1 lease 80 1 10\n2 lease 80 2 10\n1 sweep 11\n2 lease 80 2 20\n1 lease 80 1 20\n2 cancel 80 2\n1 lease 80 1 30\n2 sweep 40\n1 count\n2 find 80\n";
+    let text =
+        "table single workers 2\n1 lease 80 1 10\n2 lease 80 2 10\n1 sweep 11\n2 lease 80 2 20\n1 lease 80 1 20\n2 cancel 80 2\n1 lease 80 1 30\n2 sweep 40\n1 count\n2 find 80\n";
     let gate = InTurn {
         turn: AtomicU64::new(3),
     };

@@ -8,7 +8,8 @@ const LEASED: &str =
     "table single\n1 lease 80 1 10\n1 renew 80 1 5\n1 sweep 6\n1 cancel 80 1\n1 bind 81 2\n";
 
 /// What is printed of it.
-const TEXT: &str = "1: bound\n1: renewed\n1: swept 1 0\n1: nolease\n1: bound\nport 81: 2\nsize 64 keys 1\n";
+const TEXT: &str =
+    "1: bound\n1: renewed\n1: swept 1 0\n1: nolease\n1: bound\nport 81: 2\nsize 64 keys 1\n";
 
 #[test]
 fn leases_are_granted_and_end(rt: HostRuntime) -> Result<(), Fail> {

@@ -18,9 +18,10 @@ returns-in_err-script g c =
 
 pub write_leases-requires : goal.write_leases-requires
 write_leases-requires g c =
+    let script = c.in_ok-script.script in
     let outcome = c.in_ok-outcome.outcome in
-    let workers = c.in_ok-outcome.ensures.answered.workers in
-    let callers = c.in_ok-script.ensures.sound.settled.geometry.callers_within.1 in
+    let workers : length outcome.replies.items ≡ script.config.callers = c.in_ok-outcome.ensures.answered.workers in
+    let callers : script.config.callers ≤ 16 = c.in_ok-script.ensures.sound.settled.geometry.callers_within.1 in
     omega (arith, workers, callers, outcome.replies.ok.0)
 
 pub returns : goal.returns
