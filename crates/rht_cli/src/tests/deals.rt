@@ -88,6 +88,12 @@ struct Takers {
     meeting: Meeting,
 }
 
+/// Whether each of the two has seen the other.
+fn have_met(meeting: &Meeting) -> bool {
+    let seen = &meeting.seen[..];
+    seen.len() == 2 && seen[0].load(Ordering::SeqCst) && seen[1].load(Ordering::SeqCst)
+}
+
 impl Gate for Takers {
     fn before(&self, _worker: u32, index: u32) {
         self.meeting.before(index, index);
@@ -107,8 +113,7 @@ fn two_takers_meet(rt: HostRuntime) -> Result<(), Fail> {
     };
     let script = "table single workers 2\nany bind 1 1\nany bind 2 2\n";
     let left = run_with(&rt, rt.alloc(), &["deal"], script, WHOLE, &gate)?;
-    let seen = gate.meeting.seen[0].load(Ordering::SeqCst);
-    assert!(rt; seen && gate.meeting.seen[1].load(Ordering::SeqCst));
+    assert!(rt; have_met(&gate.meeting));
     let texts = [
         "1 1: bound\n2 2: bound\nport 1: 1\nport 2: 2\nsize 64 keys 2\n",
         "1 2: bound\n2 1: bound\nport 1: 1\nport 2: 2\nsize 64 keys 2\n",
