@@ -27,7 +27,7 @@ pub struct Deal<'a, M: Mix, G: Gate> {
     pub queue: &'a Numbers,
     /// The commands.
     pub script: &'a Script,
-    /// What hears of each command before it and after it.
+    /// What hears of each command before it, and after it once its answer is kept.
     pub gate: &'a G,
 }
 

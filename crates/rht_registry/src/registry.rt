@@ -32,9 +32,9 @@ pub struct Outcome<M: Mix> {
 }
 
 /// Opens a table and does the commands of a script on it: each worker has a pass and, where threads can
-/// be started, a thread. The gate hears of each command before it and after it. The one refusal is want
-/// of memory, and then the table and its passes are given up. No call takes memory; a reply does, once
-/// its call has ended.
+/// be started, a thread. The gate hears of each command before it, and after it once its reply is kept.
+/// The one refusal is want of memory, and then the table and its passes are given up. No call takes
+/// memory; a reply does, once its call has ended.
 pub fn run_workers<M: Mix + Send, R: Threads + Wait + Sync, G: Gate + Sync>(
     rt: &R,
     alloc: Global,

@@ -3,9 +3,10 @@
 //! Stands on `rht_model`, `rht_words` and `rht_io`. The program reads a script's bytes by `read`, a dealt
 //! script's by `read_dealt`, or makes one from a number by `generated`, and writes the text of a run by
 //! `write_run`, or by `write_dones` that of a dealt script; `write_reply`, `write_done`, `write_closed` and
-//! `write_fault` write parts of such text. Programs with lines of their own go over them by `Lines` and `Words`, or by `line_end` and `word_at`. They read single
-//! lines and words by `table_line`, `command_line`, `number_of` and `port_word`, and write by
-//! `write_number`, `write_port` and `write_ports`.
+//! `write_fault` write parts of such text. Programs with lines of their own go over them by `Lines` and
+//! `Words`, or by `line_end` and `word_at`. They read single lines and words by `table_line`, `command_line`,
+//! `number_of` and `port_word`. They write by a `Writer`, `add_reply` and `add_closed`, many lines at a put,
+//! or by `write_number`, `write_port` and `write_ports`.
 //! Read `specs/Grammar.antt` and `specs/Text.antt` first.
 #![tactic(auto)]
 
@@ -27,6 +28,7 @@ pub use reader::{
 };
 pub use script::{ReadError, Sched, Script, ScriptFault, TableLine};
 pub use writer::{
-    write_closed, write_done, write_dones, write_fault, write_number, write_open, write_operation,
-    write_port, write_ports, write_reply, write_run, write_size, write_summary,
+    Writer, add_closed, add_reply, write_closed, write_done, write_dones, write_fault,
+    write_number, write_open, write_operation, write_port, write_ports, write_reply, write_run,
+    write_size, write_summary,
 };

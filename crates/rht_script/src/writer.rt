@@ -16,7 +16,7 @@ mod pieces;
 mod summary;
 
 pub use self::operations::{write_open, write_operation, write_size};
-use self::pieces::Writer;
+pub use self::pieces::Writer;
 pub use self::summary::write_summary;
 use crate::done::Done;
 use crate::script::ScriptFault;
@@ -96,8 +96,8 @@ fn add_done<O: Sink>(text: &mut Writer<'_, O>, done: &Done) -> Result<(), Failed
     )
 }
 
-/// Adds a reply line.
-fn add_reply<O: Sink>(
+/// Adds a reply line, as `write_reply` writes it.
+pub fn add_reply<O: Sink>(
     text: &mut Writer<'_, O>,
     worker: u64,
     reply: Reply,
@@ -192,8 +192,8 @@ pub fn write_closed<O: Sink>(out: &mut O, closed: &Closed) -> Result<(), Failed>
     text.put()
 }
 
-/// Adds the lines of a table's last bindings.
-fn add_closed<O: Sink>(text: &mut Writer<'_, O>, closed: &Closed) -> Result<(), Failed>
+/// Adds the lines of a table's last bindings, as `write_closed` writes them.
+pub fn add_closed<O: Sink>(text: &mut Writer<'_, O>, closed: &Closed) -> Result<(), Failed>
     ensures text { Adds O.held O.faults text.old.out.now text.new.out.now result
         text.old.waiting text.new.waiting (closed_text closed.now) }
     ensures same_sink { text.new.out.ghost_name ≡ text.old.out.ghost_name }

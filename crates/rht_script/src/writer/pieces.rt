@@ -11,12 +11,12 @@ use itoa::Buffer;
 use rht_io::{Failed, Sink, put_all};
 use rht_words::Port;
 
-/// A sink, and the text that waits to be put behind what it has.
+/// A sink, and the text that waits to be put behind what it has, of at most 4,096 bytes. It takes no memory.
 ///
-/// Each call adds a text. After one that failed the writer is used no more: its callers pass the
-/// failure on at once.
+/// Each call adds a text, and `put` puts all that waits. A writer that is dropped puts nothing. After a call
+/// that failed the writer is used no more: its callers pass the failure on at once.
 #[derive(Drop)]
-pub(super) struct Writer<'a, O> {
+pub struct Writer<'a, O> {
     out: &'a mut O,
     waiting: TextBuffer,
 }
