@@ -1,0 +1,32 @@
+use Rattle.std.proofs.Common.{sym, ◌∙◌, ap}
+use Rattle.std.proofs.lemmas.Result.{err_from_is_err_and}
+use Rattle.rht_script.specs.Spelling.{words_of}
+use Rattle.rht_script.specs.CommandLines.{command_of}
+use Rattle.rht_script.specs.Grammar.{at_line}
+use Rattle.rht_lease.specs.LeaseLines.{plain_of, coded_at}
+use Rattle.rht_lease.proofs.LinesRead.{coded_at-coded, at_line-ok, at_line-err, lease_line_of-own, lease_line_of-plain}
+use Rattle.rht_lease.proofs.reader.command.Goals as goal
+
+pub returns-then-has_own_verb : goal.returns-then-has_own_verb
+returns-then-has_own_verb c =
+    c.at_line.ensures
+    ∙ ap (at_line c.args.number) (c.own_line.ensures
+    ∙ sym (lease_line_of-own c.args.table.now (words_of c.args.line.now) (sym c.has_own_verb.ensures ∙ c.if-has_own_verb.true)))
+
+pub returns-in_err-command : goal.returns-in_err-command
+returns-in_err-command c =
+    let words = words_of c.args.line.now in
+    let p = err_from_is_err_and c.from_residual.result c.from_residual.ensures.1 in
+    let read = sym (coded_at-coded c.args.number (command_of c.args.table.now words))
+    ∙ ap (coded_at c.args.number) (sym c.command_line.ensures.value) ∙ sym c.in_err-command.ensures in
+    rw (p.1, p.2, lease_line_of-plain c.args.table.now words (sym c.has_own_verb.ensures ∙ c.if-has_own_verb.false))
+    (sym (at_line-err c.args.number (command_of c.args.table.now words) plain_of c.in_err-command.field-0.0 read))
+
+pub returns : goal.returns
+returns c =
+    let words = words_of c.args.line.now in
+    let read = sym (coded_at-coded c.args.number (command_of c.args.table.now words))
+    ∙ ap (coded_at c.args.number) (sym c.command_line.ensures.value) ∙ sym c.in_ok-command.ensures in
+    rw (lease_line_of-plain c.args.table.now words (sym c.has_own_verb.ensures ∙ c.if-has_own_verb.false))
+    (c.at_line-2.ensures ∙ ap (at_line c.args.number) c.plain.ensures
+    ∙ sym (at_line-ok c.args.number (command_of c.args.table.now words) plain_of c.in_ok-command.command read))
