@@ -14,7 +14,11 @@ pub mod Headlines
 pub mod ReplayTexts
 -- what the verdict on a claimed history is printed as
 pub mod VerdictTexts
+-- what a form has printed that has its own texts
+pub mod PrintedTexts
 -- what was dealt is printed as a text of the form `deal`
 pub mod DealTexts
+-- what a lease script's commands were answered is printed as a text of the form `lease`
+pub mod LeaseTexts
 -- how a form that reads its input is served
 pub mod ServedScripts

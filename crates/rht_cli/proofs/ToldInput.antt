@@ -10,10 +10,11 @@ use Rattle.rht_script.specs.declared.script.ScriptFault.{ScriptFault}
 use Rattle.rht_script.specs.Dealt.{dealt_of, dealing_of}
 use Rattle.rht_script.specs.Grammar.{Said, most_bytes, script_by, reading_of}
 use Rattle.rht_script.proofs.ReadingLemmas.{reading_by-front, reading_by-long, reading_of-front, reading_of-long}
+use Rattle.rht_lease.specs.Reading.{SaidLeases, leases_from, lease_reading_of}
 use Rattle.rht_check.specs.Reading.{SaidClaim, claimed_from, claim_reading_of}
 use Rattle.rht_cli.specs.declared.form.Form.{Form}
-use Rattle.rht_cli.specs.declared.form.Form.TheVariants.{Run, Replay, Gen, Deal, Check}
-use Rattle.rht_cli.specs.Input.{IsRead, IsReadAs, IsAtFault, IsScriptRead, IsDealRead, IsClaimRead}
+use Rattle.rht_cli.specs.declared.form.Form.TheVariants.{Run, Replay, Gen, Deal, Lease, Check}
+use Rattle.rht_cli.specs.Input.{IsRead, IsReadAs, IsAtFault, IsScriptRead, IsDealRead, IsLeaseRead, IsClaimRead}
 use Rattle.rht_cli.specs.Forms.{ReadsScript, Prints, HasInput, IsFaultOf}
 
 -- what was read of told bytes, to their end, is all of them
@@ -47,6 +48,13 @@ unfolding dealing_of
 deal_bounded = record {
   front = reading_by-front (script_by dealt_of);
   long = λ bytes said long says. (let fault = reading_by-long (script_by dealt_of) bytes long in cc);
+}
+
+pub lease_bounded : IsBounded lease_reading_of
+unfolding lease_reading_of
+lease_bounded = record {
+  front = reading_by-front leases_from;
+  long = λ bytes said long says. (let fault = reading_by-long leases_from bytes long in cc);
 }
 
 pub claim_bounded : IsBounded claim_reading_of
@@ -154,6 +162,8 @@ not_both Replay bytes rest left_after fault input refused =
 not_both (Gen number) bytes rest left_after fault input refused = absurd refused
 not_both Deal bytes rest left_after fault input refused =
     said_or_fault dealing_of deal_bounded bytes rest left_after input.said fault input.read refused
+not_both Lease bytes rest left_after fault input refused =
+    said_or_fault lease_reading_of lease_bounded bytes rest left_after input.said fault input.read refused
 not_both Check bytes rest left_after fault input refused =
     said_or_fault claim_reading_of claim_bounded bytes rest left_after input.said fault input.read refused
 
@@ -165,6 +175,7 @@ HasInput-printed Run left left_after text printed = record { said = printed.said
 HasInput-printed Replay left left_after text printed = record { said = printed.said; read = printed.read }
 HasInput-printed (Gen number) left left_after text printed = printed.0
 HasInput-printed Deal left left_after text printed = record { said = printed.said; read = printed.read }
+HasInput-printed Lease left left_after text printed = record { said = printed.said; read = printed.read }
 HasInput-printed Check left left_after text printed = record { said = printed.said; read = printed.read }
 
 -- told input has one first fault
@@ -180,6 +191,8 @@ one_fault Replay bytes rest left_after first second one other =
 one_fault (Gen number) bytes rest left_after first second one other = absurd one
 one_fault Deal bytes rest left_after first second one other =
     one_first dealing_of deal_bounded bytes rest left_after first second one other
+one_fault Lease bytes rest left_after first second one other =
+    one_first lease_reading_of lease_bounded bytes rest left_after first second one other
 one_fault Check bytes rest left_after first second one other =
     one_first claim_reading_of claim_bounded bytes rest left_after first second one other
 
@@ -191,6 +204,7 @@ HasInput-script Run reads left left_after said read = record { said = said; read
 HasInput-script Replay reads left left_after said read = record { said = said; read = read }
 HasInput-script (Gen number) reads left left_after said read = absurd reads
 HasInput-script Deal reads left left_after said read = absurd reads
+HasInput-script Lease reads left left_after said read = absurd reads
 HasInput-script Check reads left left_after said read = absurd reads
 
 -- and other bytes that were read are input that is at fault
@@ -201,6 +215,7 @@ IsFaultOf-script Run reads left left_after fault read = read
 IsFaultOf-script Replay reads left left_after fault read = read
 IsFaultOf-script (Gen number) reads left left_after fault read = absurd reads
 IsFaultOf-script Deal reads left left_after fault read = absurd reads
+IsFaultOf-script Lease reads left left_after fault read = absurd reads
 IsFaultOf-script Check reads left left_after fault read = absurd reads
 
 -- a dealt script that was read is the input of `deal`, and other bytes are input that is at fault
@@ -213,6 +228,17 @@ pub IsFaultOf-deal : (left left_after : Option (List ℕ)) (fault : ScriptFault)
     → IsFaultOf Deal left left_after fault
 unfolding IsFaultOf
 IsFaultOf-deal left left_after fault read = read
+
+-- a lease script that was read is the input of `lease`, and other bytes are input that is at fault
+pub HasInput-leases : (left left_after : Option (List ℕ)) (said : SaidLeases) → IsLeaseRead left left_after said
+    → HasInput Lease left left_after
+unfolding HasInput
+HasInput-leases left left_after said read = record { said = said; read = read }
+
+pub IsFaultOf-leases : (left left_after : Option (List ℕ)) (fault : ScriptFault) → IsAtFault lease_reading_of left left_after fault
+    → IsFaultOf Lease left left_after fault
+unfolding IsFaultOf
+IsFaultOf-leases left left_after fault read = read
 
 -- a claimed history that was read is the input of `check`, and other bytes are input that is at fault
 pub HasInput-claim : (left left_after : Option (List ℕ)) (said : SaidClaim) → IsClaimRead left left_after said

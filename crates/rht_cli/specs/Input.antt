@@ -6,6 +6,7 @@ use Rattle.rht_io.specs.Told.{Rose}
 use Rattle.rht_script.specs.declared.script.ScriptFault.{ScriptFault}
 use Rattle.rht_script.specs.Grammar.{most_bytes, Said, reading_of}
 use Rattle.rht_script.specs.Dealt.{dealing_of}
+use Rattle.rht_lease.specs.Reading.{SaidLeases, lease_reading_of}
 use Rattle.rht_check.specs.Reading.{SaidClaim, claim_reading_of}
 use Rattle.rht_cli.specs.declared.ending.Failure.{Failure}
 use Rattle.rht_cli.specs.declared.ending.Failure.TheVariants.{Fault, Read, Write, Memory}
@@ -55,12 +56,15 @@ IsUnread reading left left_after before after Memory = Unit {0}
 
 -- ---- scripts and claimed histories
 
--- The input was read to its end and is a script, or a dealt one, which says this; or a claimed history, which says that.
+-- The input was read to its end and is a script, a dealt one, a lease script or a claimed history, which says this.
 abbrev pub IsScriptRead : Option (List ℕ) → Option (List ℕ) → Said → Type 0
 IsScriptRead = IsReadAs reading_of
 
 abbrev pub IsDealRead : Option (List ℕ) → Option (List ℕ) → Said → Type 0
 IsDealRead = IsReadAs dealing_of
+
+abbrev pub IsLeaseRead : Option (List ℕ) → Option (List ℕ) → SaidLeases → Type 0
+IsLeaseRead = IsReadAs lease_reading_of
 
 abbrev pub IsClaimRead : Option (List ℕ) → Option (List ℕ) → SaidClaim → Type 0
 IsClaimRead = IsReadAs claim_reading_of

@@ -8,6 +8,8 @@ pub mod GenText
 pub mod ReplayText
 -- the text of a script that was dealt
 pub mod DealText
+-- the text of a lease script's commands
+pub mod LeaseText
 -- the text of the verdict on a claimed history
 pub mod VerdictText
 -- the command forms: their words, their input and their text
@@ -16,5 +18,5 @@ pub mod Forms
 pub mod Endings
 -- the headline
 pub mod Headline
--- the headline for commands that any worker may do
-pub mod DealHeadline
+-- the headlines of the forms `deal` and `lease`
+pub mod Printed

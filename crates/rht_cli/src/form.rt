@@ -21,6 +21,9 @@ pub enum Form {
     /// `deal`: reads a dealt script, and prints who did each of its commands and what that was
     /// answered, and the last bindings.
     Deal,
+    /// `lease`: reads a lease script, whose bindings end, and prints what its commands are answered and the
+    /// last bindings.
+    Lease,
     /// `check`: reads a claimed history, and prints whether it is legal, or what is wrong with it.
     Check,
 }
@@ -48,6 +51,8 @@ fn form_of_word(word: &str) -> Option<Form>
         Some(Form::Replay)
     } else if word == "deal" {
         Some(Form::Deal)
+    } else if word == "lease" {
+        Some(Form::Lease)
     } else if word == "check" {
         Some(Form::Check)
     } else {

@@ -1,18 +1,21 @@
-//! Reading the whole input, and no more of it than a script can have, as a script, as a dealt one, or as
-//! a claimed history.
+//! Reading the whole input, and no more of it than a script can have, as a script, as a dealt one, as a
+//! lease script, or as a claimed history.
 
 ghost use Rattle.std.specs.Prelude.{◌≡◌, ◌<◌, ◌≤◌, length, vec_len, IfOk, IfErr};
 ghost use Rattle.rht_script.specs.Grammar.{reading_of};
 ghost use Rattle.rht_script.specs.Reading.{said_by};
 ghost use Rattle.rht_script.specs.Dealt.{dealing_of, IsDealtScript};
 ghost use Rattle.rht_script.specs.Sound.{IsSoundScript};
+ghost use Rattle.rht_lease.specs.Reading.{lease_reading_of, said_by_leases};
+ghost use Rattle.rht_lease.specs.Scripts.{IsSoundLeases};
 ghost use Rattle.rht_check.specs.Claims.{IsSoundClaim};
 ghost use Rattle.rht_check.specs.Reading.{claim_reading_of, said_by_claim};
-ghost use Rattle.rht_cli.specs.Input.{IsRead, IsMore, IsReadFault, IsScriptRead, IsDealRead, IsClaimRead, IsUnread};
+ghost use Rattle.rht_cli.specs.Input.{IsRead, IsMore, IsReadFault, IsScriptRead, IsDealRead, IsLeaseRead, IsClaimRead, IsUnread};
 
 use crate::ending::Failure;
 use rht_check::{Claim, read_claim};
 use rht_io::Source;
+use rht_lease::{LeaseScript, read_leases};
 use rht_script::{MOST_BYTES, Script, read, read_dealt};
 use std::alloc::{AllocError, Global};
 
@@ -39,6 +42,17 @@ pub fn read_deal<S: Source>(alloc: Global, source: &mut S) -> Result<Script, Fai
 {
     let bytes = read_all(alloc, source)?;
     Ok(read_dealt(alloc, &bytes)?)
+}
+
+/// Reads the lease script that the input is.
+pub fn read_leasing<S: Source>(alloc: Global, source: &mut S) -> Result<LeaseScript, Failure>
+    ensures read { IfOk result (λ script. IsLeaseRead (S.left source.old) (S.left source.new) (said_by_leases script)) }
+    ensures sound { IfOk result IsSoundLeases }
+    ensures unread { IfErr result (IsUnread lease_reading_of (S.left source.old) (S.left source.new)
+        (S.faults source.old) (S.faults source.new)) }
+{
+    let bytes = read_all(alloc, source)?;
+    Ok(read_leases(alloc, &bytes)?)
 }
 
 /// Reads the claimed history that the input is.

@@ -5,9 +5,10 @@ ghost use Rattle.rht_script.specs.declared.script.ScriptFault.{ScriptFault};
 ghost use Rattle.rht_script.specs.Grammar.{Said, reading_of};
 ghost use Rattle.rht_script.specs.Reading.{FirstFault};
 ghost use Rattle.rht_script.specs.Dealt.{dealing_of};
+ghost use Rattle.rht_lease.specs.Reading.{SaidLeases, lease_reading_of};
 ghost use Rattle.rht_check.specs.Reading.{SaidClaim, claim_reading_of};
 ghost use Rattle.rht_cli.specs.declared.form.Form.{Form};
-ghost use Rattle.rht_cli.specs.declared.form.Form.TheVariants.{Gen, Deal, Check};
+ghost use Rattle.rht_cli.specs.declared.form.Form.TheVariants.{Gen, Deal, Lease, Check};
 ghost use Rattle.rht_cli.specs.Forms.{form_of, ReadsScript};
 
 use crate::program::run;
@@ -18,7 +19,7 @@ use std::thread::Threads;
 
 /// The status of a run on these bytes where nothing outside can fail. A form that reads a script
 /// has 0 for a script and 2 for other bytes, or 5 where memory ran out; `deal` has so for dealt scripts,
-/// and `check` for claimed histories; `gen` has 0 or 5; and where the words are no command form the status is 1.
+/// `lease` for lease scripts, and `check` for claimed histories; `gen` has 0 or 5; and where the words are no command form the status is 1.
 pub fn complete<R: Threads + Wait + Sync, G: Gate + Sync>(
     rt: &R,
     alloc: Global,
@@ -36,6 +37,10 @@ pub fn complete<R: Threads + Wait + Sync, G: Gate + Sync>(
         → dealing_of bytes.items ≡ Ok said → (result ≡ 0) ⊎ (result ≡ 5) }
     ensures undealt { (fault : ScriptFault) → form_of (map string_bytes words.now.items) ≡ Some Deal
         → dealing_of bytes.items ≡ Err fault → (result ≡ 2) ⊎ (result ≡ 5) }
+    ensures leased { (said : SaidLeases) → form_of (map string_bytes words.now.items) ≡ Some Lease
+        → lease_reading_of bytes.items ≡ Ok said → (result ≡ 0) ⊎ (result ≡ 5) }
+    ensures unleased { (fault : ScriptFault) → form_of (map string_bytes words.now.items) ≡ Some Lease
+        → lease_reading_of bytes.items ≡ Err fault → (result ≡ 2) ⊎ (result ≡ 5) }
     ensures judged { (said : SaidClaim) → form_of (map string_bytes words.now.items) ≡ Some Check
         → claim_reading_of bytes.items ≡ Ok said → (result ≡ 0) ⊎ (result ≡ 5) }
     ensures unclaimed { (fault : ScriptFault) → form_of (map string_bytes words.now.items) ≡ Some Check

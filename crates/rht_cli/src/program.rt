@@ -1,8 +1,9 @@
 //! The top call: the program from bytes to bytes.
 //!
 //! Stands on the forms, the reader of the input, the script's writer, the registry whose workers do a
-//! script's commands on a table or which replays it, the closing of that table, the dealing of a script, the judge
-//! of claimed histories, and the endings. Begin with the clauses of `run`: they say what each status means.
+//! script's commands on a table or which replays it, the closing of that table, the dealing of a script, the
+//! doing of a lease script, the judge of claimed histories, and the endings. Begin with the clauses of `run`:
+//! they say what each status means.
 
 ghost use Rattle.std.specs.Prelude.{◌≡◌, ◌≢◌, ◌≤◌, ◌↔◌, ◌⊎◌, None, Some, Option, List, ℕ, string_bytes, map, IfOk};
 ghost use Rattle.rht_io.specs.Told.{Rose, PutsLine};
@@ -15,19 +16,22 @@ ghost use Rattle.rht_run.specs.ServedRuns.{tag_of, HasRun};
 ghost use Rattle.rht_script.specs.Dealt.{IsDealtScript};
 ghost use Rattle.rht_registry.specs.Players.{IsReplayed};
 ghost use Rattle.rht_deal.specs.Dealing.{IsDealing};
+ghost use Rattle.rht_lease.specs.Leasing.{IsLeasing};
+ghost use Rattle.rht_lease.specs.Scripts.{IsSoundLeases};
 ghost use Rattle.rht_cli.specs.declared.form.Form.{Form};
-ghost use Rattle.rht_cli.specs.declared.form.Form.TheVariants.{Run, Replay, Gen, Deal, Check};
+ghost use Rattle.rht_cli.specs.declared.form.Form.TheVariants.{Run, Replay, Gen, Deal, Lease, Check};
 ghost use Rattle.rht_cli.specs.Forms.{form_of, HasForm, ReadsInput, HasInput, IsFaultOf};
 ghost use Rattle.rht_cli.specs.Endings.{IsDone, IsCutShort, Serves, ServesUnread, served_by, replayed_by, ending_of, status_line};
 ghost use Rattle.rht_cli.specs.Headline.{Headline};
-ghost use Rattle.rht_cli.specs.DealHeadline.{DealHeadline};
+ghost use Rattle.rht_cli.specs.Printed.{DealHeadline, LeaseHeadline};
 
 use crate::ending::{Ending, Failure};
 use crate::form::Form;
-use crate::input::{read_claimed, read_deal, read_script};
+use crate::input::{read_claimed, read_deal, read_leasing, read_script};
 use rht_check::{check, write_verdict};
 use rht_deal::{Dealt, run_dealt, write_dealt};
 use rht_io::{Failed, Gate, Sink, Source};
+use rht_lease::{LeaseOutcome, LeaseScript, run_leases, write_leases};
 use rht_model::{Closed, Replies};
 use rht_policy::{Lookup3, Low, Mix};
 use rht_registry::{ReplayError, replay, run_workers};
@@ -40,8 +44,10 @@ use std::thread::Threads;
 
 /// Runs the program on the words after its name, and answers its exit status.
 ///
-/// The script, or at `check` the claimed history, comes from the source, but the script of `gen`; the text goes to `out`, and the line of a status above 0
-/// to `err`, whose faults change no status. The gate hears of each command before it and after it.
+/// The input comes from the source: a script, a dealt script, a lease script or a claimed history, as the form
+/// has it; `gen` reads none. The text goes to `out`, and the line of a status above 0 to `err`, whose faults
+/// change no status. The gate hears of each command before it, and after it where there is memory to keep what
+/// it was answered; `replay` and `check` don't ask it.
 pub fn run<R: Threads + Wait + Sync, S: Source, O: Sink, E: Sink, G: Gate + Sync>(
     rt: &R,
     alloc: Global,
@@ -63,6 +69,11 @@ pub fn run<R: Threads + Wait + Sync, S: Source, O: Sink, E: Sink, G: Gate + Sync
     // The same for a dealt script: the text is that of a run in which each command was done once, and which one legal history fits.
     ensures dealt { result ≡ 0 → form_of (map string_bytes words.now.items) ≡ Some Deal
         → DealHeadline (S.left source.old) (S.left source.new) (O.held out.old) (O.held out.new) }
+
+    // And for a lease script: the text is that of a run which serves the calls that its commands stand for, and which one legal
+    // history fits.
+    ensures leased { result ≡ 0 → form_of (map string_bytes words.now.items) ≡ Some Lease
+        → LeaseHeadline (S.left source.old) (S.left source.new) (O.held out.old) (O.held out.new) }
 
     // 1: exactly where the words are no command form. Nothing is read, and nothing written to out.
     ensures usage { (result ≡ 1) ↔ (form_of (map string_bytes words.now.items) ≡ None) }
@@ -152,6 +163,7 @@ fn serve<R: Threads + Wait + Sync, S: Source, O: Sink, G: Gate + Sync>(
         Form::Replay => serve_replay(alloc, source, out),
         Form::Gen { number } => serve_gen(rt, alloc, number, out, gate),
         Form::Deal => serve_deal(rt, alloc, source, out, gate),
+        Form::Lease => serve_lease(rt, alloc, source, out, gate),
         Form::Check => serve_check(alloc, source, out),
     }
 }
@@ -213,6 +225,21 @@ fn serve_deal<R: Threads + Wait + Sync, S: Source, O: Sink, G: Gate + Sync>(
     served_by(write_dealt(out, &dealt))
 }
 
+/// Reads a lease script, does its commands, and prints what they are answered.
+fn serve_lease<R: Threads + Wait + Sync, S: Source, O: Sink, G: Gate + Sync>(
+    rt: &R,
+    alloc: Global,
+    source: &mut S,
+    out: &mut O,
+    gate: &G,
+) -> Result<(), Failure>
+    ensures { Serves S.left S.faults O.held O.faults Lease source.old source.new out.old out.new result }
+{
+    let script = read_leasing(alloc, source)?;
+    let outcome = lease_hashed(rt, alloc, &script, gate)?;
+    served_by(write_leases(out, &outcome))
+}
+
 /// Reads a claimed history, and prints the verdict on it.
 fn serve_check<S: Source, O: Sink>(
     alloc: Global,
@@ -252,6 +279,24 @@ fn deal_hashed<R: Threads + Wait + Sync, G: Gate + Sync>(
     match script.config.hash {
         Hash::Mix => run_dealt::<Lookup3, _, _>(rt, alloc, script, gate),
         Hash::Low => run_dealt::<Low, _, _>(rt, alloc, script, gate),
+    }
+}
+
+/// Does a lease script's commands on a table whose ports are hashed as its config says. The one refusal is
+/// want of memory.
+fn lease_hashed<R: Threads + Wait + Sync, G: Gate + Sync>(
+    rt: &R,
+    alloc: Global,
+    script: &LeaseScript,
+    gate: &G,
+) -> Result<LeaseOutcome, AllocError>
+    requires { IsSoundLeases script.now }
+    ensures { IfOk result (λ outcome. IsLeasing script.now.config script.now.auto script.now.commands.items outcome.replies.items
+        outcome.closed) }
+{
+    match script.config.hash {
+        Hash::Mix => run_leases::<Lookup3, _, _>(rt, alloc, script, gate),
+        Hash::Low => run_leases::<Low, _, _>(rt, alloc, script, gate),
     }
 }
 

@@ -18,10 +18,12 @@ mod claims;
 mod deals;
 mod growth;
 mod hostile;
+mod leases;
 mod moves;
 mod walks;
 
-const USAGE: &str = "rht: usage: rht run | rht replay | rht gen NUMBER | rht deal | rht check\n";
+const USAGE: &str =
+    "rht: usage: rht run | rht replay | rht gen NUMBER | rht deal | rht lease | rht check\n";
 
 const NO_TABLE_LINE: &str = "rht: line 1: no table line\n";
 

@@ -1,10 +1,11 @@
 use Rattle.std.proofs.Common.{[], Some, ap, inl, inr}
 use Rattle.rht_script.specs.Grammar.{reading_of}
 use Rattle.rht_script.specs.Dealt.{dealing_of}
+use Rattle.rht_lease.specs.Reading.{lease_reading_of}
 use Rattle.rht_check.specs.Reading.{claim_reading_of}
-use Rattle.rht_cli.specs.declared.form.Form.TheVariants.{Gen, Deal, Check}
+use Rattle.rht_cli.specs.declared.form.Form.TheVariants.{Gen, Deal, Lease, Check}
 use Rattle.rht_cli.proofs.ServedScripts.{never_rises}
-use Rattle.rht_cli.proofs.ToldInput.{script_bounded, deal_bounded, claim_bounded, HasInput-script, IsFaultOf-script, HasInput-deal, IsFaultOf-deal, HasInput-claim, IsFaultOf-claim, HasInput-gen, IsReadAs-told, IsAtFault-told}
+use Rattle.rht_cli.proofs.ToldInput.{script_bounded, deal_bounded, lease_bounded, claim_bounded, HasInput-script, IsFaultOf-script, HasInput-deal, IsFaultOf-deal, HasInput-leases, IsFaultOf-leases, HasInput-claim, IsFaultOf-claim, HasInput-gen, IsReadAs-told, IsAtFault-told}
 use Rattle.rht_cli.proofs.laws.complete.Goals as goal
 
 pub returns-clause-served : goal.returns-clause-served
@@ -33,6 +34,21 @@ returns-clause-undealt g c fault named first =
     let input = IsAtFault-told dealing_of deal_bounded c.args.bytes.items fault first in
     elim (c.run.ensures.refused Deal c.args.bytes.items input.0 fault named (ap Some c.new-source.ensures)
     (IsFaultOf-deal (Some c.args.bytes.items) input.0 fault input.1) never_rises) [
+      | inl two ↦ inl two.0
+      | inr memory ↦ inr memory
+    ]
+
+pub returns-clause-leased : goal.returns-clause-leased
+returns-clause-leased g c said named says =
+    c.run.ensures.served Lease c.args.bytes.items (Some []) named (ap Some c.new-source.ensures)
+    (HasInput-leases (Some c.args.bytes.items) (Some []) said (IsReadAs-told lease_reading_of lease_bounded c.args.bytes.items said says))
+    never_rises never_rises
+
+pub returns-clause-unleased : goal.returns-clause-unleased
+returns-clause-unleased g c fault named first =
+    let input = IsAtFault-told lease_reading_of lease_bounded c.args.bytes.items fault first in
+    elim (c.run.ensures.refused Lease c.args.bytes.items input.0 fault named (ap Some c.new-source.ensures)
+    (IsFaultOf-leases (Some c.args.bytes.items) input.0 fault input.1) never_rises) [
       | inl two ↦ inl two.0
       | inr memory ↦ inr memory
     ]
