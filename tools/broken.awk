@@ -3,10 +3,12 @@
 # It reads these files, and writes inputs number `first` to `last` of `seed` into `folder`. For each it prints the file that it wrote,
 # the form by which it is to be run, and how many lines it has.
 
+BEGIN { forms = split("run replay deal lease check", form, " ") }
 FNR == 1 {
   files++
   is_fault[files] = FILENAME ~ /\/faults\//
-  form_of[files] = FILENAME ~ /\/replay\// ? "replay" : FILENAME ~ /\/check\/|\/check_/ ? "check" : "run"
+  form_of[files] = "run"
+  for (at = 1; at <= forms; at++) if (FILENAME ~ "/" form[at] "[/_]") form_of[files] = form[at]
 }
 { texts[files] = texts[files] $0 "\n" }
 
@@ -18,18 +20,18 @@ END {
   for (number = first; number <= last; number++) make(number)
 }
 
-function make(number,    pick, form, breaks, file) {
+function make(number,    pick, way, breaks, file) {
   begin_chance(seed, number)
   do pick = 1 + below(files)
   while (is_fault[pick] && below(4))
   text = texts[pick]
-  form = below(4) ? form_of[pick] : one_of("run", "replay", "check")
+  way = below(4) ? form_of[pick] : form[1 + below(forms)]
   for (breaks = below(3) ? 1 : 1 + below(8); breaks > 0; breaks--) break_once()
-  if (form == "replay") shorten_schedule()
+  if (way == "replay") shorten_schedule()
   file = folder "/input_" number
   printf "%s", text >file
   close(file)
-  print file, form, split(text, line, "\n")
+  print file, way, split(text, line, "\n")
 }
 
 # ---- One break ----------------------------------------------------------------------------------
