@@ -1,7 +1,7 @@
 -- What a walk knows in each of its states, by the words and the ghost of one moment: which ports were bound nowhere meanwhile, which are
--- shown, and which it may come to still. All of it but that nodes were first ones late is said where no table is behind the walked one.
+-- shown, and which it may come to still. All of it but that nodes were first ones late, and the key of one, is said where no table is behind
+-- the walked one.
 use Rattle.std.proofs.Common.{◌≡◌, ◌⊎◌, ℕ, ◌+◌, ◌<◌, ◌≤◌, Bool, true, List, [], map, Option, Some, None, ◌/◌}
-use Rattle.std.specs.List.{AllByRecursion}
 use Rattle.rht_words.specs.declared.env.Env.{Env}
 use Rattle.rht_words.specs.Members.{In, IsDistinct}
 use Rattle.rht_words.proofs.Memory.{Memory}
@@ -31,12 +31,10 @@ SaidOf Missed items port = Missed port ⊎ In port (ports_of items)
 module _ (env : Env) (mix : ℕ → ℕ → ℕ → ℕ) where
   -- where the table of this number is the last one: each port of its buckets from the first one on was bound nowhere meanwhile or is
   -- shown; the ports that are shown are of these buckets; and each is shown once
-  pub record EndKnown (G : Ghost) (τ first upto : ℕ) (Missed : ℕ → Type 0) (Bound : ℕ × ℕ → Type 0) (items : List (ℕ × ℕ)) :
-      Type 0 where
+  pub record EndKnown (G : Ghost) (τ first upto : ℕ) (Missed : ℕ → Type 0) (items : List (ℕ × ℕ)) : Type 0 where
     pub shown : (port : ℕ) → first ≤ hash_in env mix G port τ → hash_in env mix G port τ < upto → SaidOf Missed items port
     pub within : (port : ℕ) → In port (ports_of items) → (first ≤ hash_in env mix G port τ) × (hash_in env mix G port τ < upto)
     pub distinct : IsDistinct (ports_of items)
-    pub bound : AllByRecursion Bound items
 
   -- It has a cursor of the table's serial to the bucket up to which it came; what it shows is known where no table was behind, of so many
   -- that were attached. Or it has come to the end, behind which no table was.
@@ -45,9 +43,8 @@ module _ (env : Env) (mix : ℕ → ℕ → ℕ → ℕ) where
   EndsAt G all WasLast Known τ serial upto (Some cursor) = (cursor.serial ≡ serial) × (cursor.bucket ≡ upto) × (τ + 1 ≡ all → Known)
 
   -- the table that was walked, where the walk doesn't have to begin anew
-  pub record HasWalkedTo (G : Ghost) (all : ℕ) (from : Option Cursor) (Missed WasLast : ℕ → Type 0) (Bound : ℕ × ℕ → Type 0)
-      (items : List (ℕ × ℕ))
-      (next : Option Cursor) : Type 0 where
+  pub record HasWalkedTo (G : Ghost) (all : ℕ) (from : Option Cursor) (Missed WasLast : ℕ → Type 0)
+      (items : List (ℕ × ℕ)) (next : Option Cursor) : Type 0 where
     pub table : ℕ
     pub serial : ℕ
     pub shape : ℕ
@@ -56,9 +53,9 @@ module _ (env : Env) (mix : ℕ → ℕ → ℕ → ℕ) where
     pub attached : table < all
     pub serial_is : (G.table table).serial ≡ serial
     pub fits : Fits serial shape from
-    pub ends : EndsAt G all WasLast (EndKnown G table (first_bucket from) upto Missed Bound items) table serial upto next
+    pub ends : EndsAt G all WasLast (EndKnown G table (first_bucket from) upto Missed items) table serial upto next
 
-  module _ (from : Option Cursor) (begin now : ℕ) (Missed WasLast : ℕ → Type 0) (Bound : ℕ × ℕ → Type 0) (seen : ℕ → Bool)
+  module _ (from : Option Cursor) (begin now : ℕ) (Missed WasLast : ℕ → Type 0) (seen : ℕ → Bool)
       (items : List (ℕ × ℕ)) (M : Memory) (G : Ghost) (P : Places) where
     abbrev pub first : ℕ
     first = first_bucket from
@@ -91,7 +88,6 @@ module _ (env : Env) (mix : ℕ → ℕ → ℕ → ℕ) where
       pub keys : ports_of items ≡ map (key_of M) nodes
       pub each : (n : ℕ) → In n nodes → IsShown slot n × Where n
       pub distinct : IsDistinct (ports_of items)
-      pub bound : AllByRecursion Bound items
 
     -- the node's port is of an earlier bucket than this one
     abbrev pub IsBefore : ℕ → ℕ → ℕ → Type 0
@@ -167,15 +163,11 @@ module _ (env : Env) (mix : ℕ → ℕ → ℕ → ℕ) where
     abbrev pub HereAtLink : Chain → ℕ → ℕ → ℕ → Type 0
     HereAtLink chain m since port = StageIs port since (AtLink chain.visit.table (word_index env mix chain.place) m (chain.visited + 1))
 
-    -- the key that was loaded is the node's, and wasn't shown
-    pub record IsNewKey (m key : ℕ) : Type 0 where
-      pub is : key_of M m ≡ key
-      pub apart : In key (ports_of items) → ⊥
-
-    -- before its owner is loaded
+    -- before its owner is loaded: the key that was loaded is the node's, and wasn't shown where no table is behind
     pub record IsAtOwner (chain : Chain) (m key : ℕ) : Type 0 where
       pub in_chain : IsInChain chain m (λ since port. (port ≡ key) ⊎ HereAtLink chain m since port) (λ at. at + 1)
-      pub new : IsLast chain.visit.table → IsNewKey m key
+      pub is : key_of M m ≡ key
+      pub apart : IsLast chain.visit.table → In key (ports_of items) → ⊥
 
     -- behind the last bucket
     pub record IsAtEnd (slot : ℕ) : Type 0 where
@@ -186,7 +178,7 @@ module _ (env : Env) (mix : ℕ → ℕ → ℕ → ℕ) where
       pub behind : IsBehind visit
 
     abbrev pub EndMeans : WalkEnd → Type 0
-    EndMeans (ends.Walked next) = HasWalkedTo G G.attached from Missed WasLast Bound items next
+    EndMeans (ends.Walked next) = HasWalkedTo G G.attached from Missed WasLast items next
     EndMeans (ends.Again table) = Unit {0}
 
     abbrev pub WalkMeans : WalkAt → Type 0
