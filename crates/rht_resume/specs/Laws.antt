@@ -1,0 +1,160 @@
+-- What follows for resumed walks and for the calls that commands stand for, in the words of pieces, ports and owners.
+use Rattle.std.specs.Prelude.{◌≡◌, ◌≢◌, ℕ, ◌+◌, ◌<◌, ◌≤◌, ◌↔◌, Option, Some, None, List, [], ◌∷◌, ◌++◌, length, map, slice_index}
+use Rattle.std.specs.List.{AllByRecursion, Any, flat_map}
+use Rattle.rht_words.specs.declared.env.Env.{Env}
+use Rattle.rht_words.specs.Members.{In, IsDistinct}
+use Rattle.rht_words.specs.Places.{Section, place_of}
+use Rattle.rht_model.specs.declared.finished.Finished.{Finished}
+use Rattle.rht_model.specs.declared.history.Call.{Call}
+use Rattle.rht_model.specs.declared.history.Entry.{Entry}
+use Rattle.rht_model.specs.declared.history.Reply.TheVariants as replies
+use Rattle.rht_model.specs.Endings.{Ending, ending_in}
+use Rattle.rht_model.specs.Multimap.{Port}
+use Rattle.rht_core.specs.declared.event.Event.{Event}
+use Rattle.rht_core.specs.RunHistories.{bindings_behind}
+use Rattle.rht_core.specs.Runs.{IsAdmitted}
+use Rattle.rht_core.specs.Seen.{words_before}
+use Rattle.rht_core.specs.Shown.{AreAmong, AreFewMade, ends_behind}
+use Rattle.rht_core.specs.ToldHistories.{TellsOf}
+use Rattle.rht_core.specs.Traces.{Past, traced_of, behind_call}
+use Rattle.rht_resume.specs.declared.resume.Piece.{Piece}
+use Rattle.rht_resume.specs.declared.resume.Piece.TheVariants.{Part, End, Again}
+use Rattle.rht_resume.specs.declared.resume.ResumeCall.{ResumeCall}
+use Rattle.rht_resume.specs.declared.resume.ResumeScript.{ResumeScript}
+use Rattle.rht_resume.specs.declared.resumed.Spot.{Spot}
+use Rattle.rht_resume.specs.declared.outcome.ResumeOutcome.{ResumeOutcome}
+use Rattle.rht_resume.specs.Answers.{Answer, AreAnswered}
+use Rattle.rht_resume.specs.Pieces.{Outcome, start, outcome_of, walks_of}
+use Rattle.rht_resume.specs.Resuming.{IsResumedBy}
+
+-- ---- pieces
+
+-- A part has as many pairs as were wanted, and behind it the walk isn't ended. An end tells how many pairs it has, which are no more than that,
+-- and behind it the walk is ended. Where the walk has to begin anew there are no pairs, and it is at its start.
+abbrev pub IsPieceOf : ℕ → Piece → List (Port × ℕ) → Option Spot → Type 0
+IsPieceOf limit Part pairs spot = (length pairs ≡ limit) × (spot ≢ None)
+IsPieceOf limit (End len) pairs spot = (length pairs ≡ len) × (len ≤ limit) × (spot ≡ None)
+IsPieceOf limit (Again table) pairs spot = (pairs ≡ []) × (spot ≡ Some start)
+
+-- Each outcome of a `next` is such a piece.
+abbrev pub CutsRightly : Type 0
+CutsRightly =
+    (limit : ℕ) (spot : Spot) (endings : List Ending) (outcome : Outcome) → outcome_of limit spot endings ≡ Some outcome
+    → IsPieceOf limit outcome.piece outcome.pairs outcome.spot
+
+-- The piece says that the walk has to begin anew exactly where one of the walks was answered so, with the same table.
+abbrev pub BeginsAnewByWalk : Type 0
+BeginsAnewByWalk =
+    (limit : ℕ) (spot : Spot) (endings : List Ending) (outcome : Outcome) (table : ℕ) → outcome_of limit spot endings ≡ Some outcome
+    → (outcome.piece ≡ Again table) ↔ Any (λ ending. ending.answer.reply ≡ replies.Again table) endings
+
+-- How a worker's calls ended decides what its commands were answered.
+abbrev pub DecidesAnswers : Type 0
+DecidesAnswers =
+    (spot : Option Spot) (asked : List ResumeCall) (answers others : List Answer) (endings : List Ending)
+    → AreAnswered spot asked answers endings → AreAnswered spot asked others endings → answers ≡ others
+
+-- ---- in every run
+
+-- a `next` that a caller has made: how many pairs it wanted, its walks, of which there is one or more, and what it left
+pub record NextMade : Type 0 where
+  pub limit : ℕ
+  pub first : Past
+  pub more : List Past
+  pub outcome : Outcome
+
+abbrev pub walks_in : NextMade → List Past
+walks_in made = made.first ∷ made.more
+
+-- the event at which its first walk began, and the one behind its last walk
+abbrev pub begins_at : NextMade → ℕ
+begins_at made = made.first.begin
+
+abbrev pub ends_at : NextMade → ℕ
+ends_at made = ends_behind (behind_call made.first) made.more
+
+-- how these calls ended
+abbrev pub endings_in : List Past → List Ending
+endings_in pasts = map (λ past. ending_in past.done) pasts
+
+-- These are the walks of a `next` that begins at this spot, and what it left is what comes of their answers.
+pub record IsNextFrom (spot : Spot) (made : NextMade) : Type 0 where
+  pub outcome : outcome_of made.limit spot (endings_in (walks_in made)) ≡ Some made.outcome
+  pub calls : map (λ past. past.done.call) (walks_in made) ≡ walks_of made.limit spot (endings_in (walks_in made))
+
+-- the piece is the last one of its walk
+abbrev pub IsLastPiece : Piece → Type 0
+IsLastPiece Part = ⊥
+IsLastPiece (End len) = Unit {0}
+IsLastPiece (Again table) = ⊥
+
+-- A resumed walk from this spot on: each `next` begins where the one before it has left the walk, each but the last answers a part, and the
+-- last one comes to the end.
+abbrev pub IsResumedWalk : Spot → List NextMade → Type 0
+IsResumedWalk spot [] = ⊥
+IsResumedWalk spot (made ∷ []) = IsNextFrom spot made × IsLastPiece made.outcome.piece
+IsResumedWalk spot (made ∷ next ∷ others) =
+    (later : Spot) × IsNextFrom spot made × (made.outcome.piece ≡ Part) × (made.outcome.spot ≡ Some later)
+    × IsResumedWalk later (next ∷ others)
+
+-- all its walks, the pairs that it shows, and the event behind the last of it
+abbrev pub all_walks : List NextMade → List Past
+all_walks nexts = flat_map walks_in nexts
+
+abbrev pub all_pairs : List NextMade → List (Port × ℕ)
+all_pairs nexts = flat_map (λ made. made.outcome.pairs) nexts
+
+abbrev pub ends_with : NextMade → List NextMade → ℕ
+ends_with made [] = ends_at made
+ends_with made (next ∷ others) = ends_with next others
+
+module _ (M : Type 0) (mix : ℕ → ℕ → ℕ → ℕ) where
+  -- behind some event of the span the words stand for this owner as the port's first one
+  pub record IsBoundBetween (env : Env) (events : List Event) (begin behind : ℕ) (pair : Port × ℕ) : Type 0 where
+    pub at : ℕ
+    pub begun : begin < at
+    pub before : at ≤ behind
+    pub rest : List ℕ
+    pub is : bindings_behind M mix env events at pair.0 ≡ pair.1 ∷ rest
+
+  -- In every run each pair that a `next` shows is a port and its first owner behind some event of that call.
+  abbrev pub ShowsBound : Type 0
+  ShowsBound =
+      (env : Env) (events : List Event) (c : ℕ) (spot : Spot) (made : NextMade) → IsAdmitted events → IsNextFrom spot made
+      → AreAmong (walks_in made) ((traced_of {M = M} mix env events).traces c).past
+      → AllByRecursion (IsBoundBetween env events (begins_at made) (ends_at made)) made.outcome.pairs
+
+  -- the word at this place is no caller's section word
+  abbrev pub IsNoSection : Env → ℕ → Type 0
+  IsNoSection env place = (caller : ℕ) → caller < 16 → place ≢ place_of env.geometry (Section caller)
+
+  -- no event of the span changes a word other than section words
+  abbrev pub IsStill : Env → List Event → ℕ → ℕ → Type 0
+  IsStill env events begin behind =
+      (i place : ℕ) → begin ≤ i → i < behind → IsNoSection env place
+      → slice_index (words_before M mix env events (i + 1)) place ≡ slice_index (words_before M mix env events i) place
+
+  -- Behind each event of the span these are the ports that the words stand for, each once and with its first owner.
+  pub record AreAllBound (env : Env) (events : List Event) (begin behind : ℕ) (pairs : List (Port × ℕ)) : Type 0 where
+    pub every : (at : ℕ) (port : ℕ) → begin < at → at ≤ behind → bindings_behind M mix env events at port ≢ []
+        → In port (map (λ pair. pair.0) pairs)
+    pub bound : (at : ℕ) → begin < at → at ≤ behind
+        → AllByRecursion (λ pair. (rest : List ℕ) × (bindings_behind M mix env events at pair.0 ≡ pair.1 ∷ rest)) pairs
+    pub once : IsDistinct (map (λ pair. pair.0) pairs)
+
+  -- In every run a resumed walk over words that stay shows just what is bound, where few serials were taken.
+  abbrev pub ShowsAllOnce : Type 0
+  ShowsAllOnce =
+      (env : Env) (events : List Event) (c : ℕ) (made : NextMade) (others : List NextMade) → IsAdmitted events → AreFewMade M mix env events
+      → IsResumedWalk start (made ∷ others)
+      → AreAmong (all_walks (made ∷ others)) ((traced_of {M = M} mix env events).traces c).past
+      → IsStill env events (begins_at made) (ends_with made others)
+      → AreAllBound env events (begins_at made) (ends_with made others) (all_pairs (made ∷ others))
+
+-- ---- what the workers leave
+
+-- A legal history tells of the run that they leave, and fits it.
+abbrev pub HistoryFits : Type 0 → Type 0
+HistoryFits M =
+    (script : ResumeScript) (outcome : ResumeOutcome) (resumed : IsResumedBy M script outcome)
+    → (history : List Entry) × TellsOf resumed.served history

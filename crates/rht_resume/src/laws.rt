@@ -1,0 +1,38 @@
+//! What follows for resumed walks, for the calls that commands stand for, and for what workers leave. Each function
+//! is empty, and its clause is the law. What else is so of the run that they leave, is said of every run that
+//! serves commands (the laws of `rht_core`, and `HasRun` of `rht_run`).
+
+ghost use Rattle.rht_resume.specs.Laws.{CutsRightly, BeginsAnewByWalk, DecidesAnswers, ShowsBound, ShowsAllOnce, HistoryFits};
+
+use rht_policy::Mix;
+
+/// A part has as many pairs as were wanted, and an end tells how many it has.
+pub fn pieces()
+    ensures { CutsRightly }
+{}
+
+/// A walk has to begin anew exactly where one of the calls that it made was answered so.
+pub fn begun_anew()
+    ensures { BeginsAnewByWalk }
+{}
+
+/// How a worker's calls ended decides what its commands were answered.
+pub fn decided()
+    ensures { DecidesAnswers }
+{}
+
+/// In every run each pair of a piece is a port and its first owner at a moment of that call.
+pub fn bound<M: Mix>()
+    ensures { ShowsBound M M.mix_of }
+{}
+
+/// In every run a resumed walk during which nothing is written shows each bound port once, with its first owner,
+/// and no other. Read sections may be opened and closed meanwhile.
+pub fn once<M: Mix>()
+    ensures { ShowsAllOnce M M.mix_of }
+{}
+
+/// A legal history fits the run that the workers leave.
+pub fn history_fits<M: Mix>()
+    ensures { HistoryFits M }
+{}
