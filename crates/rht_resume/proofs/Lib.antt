@@ -1,1 +1,2 @@
--- a table of contents
+-- the answers of a `next`, one after another
+pub mod PieceLemmas

@@ -1,7 +1,7 @@
-//! The tests of `rht_run`, `rht_registry`, `rht_deal` and `rht_lease`: calls of a running table, scripts done on
-//! it and dealt, scripts whose bindings end, and replays.
+//! The tests of `rht_run`, `rht_registry`, `rht_deal`, `rht_lease` and `rht_resume`: calls of a running table,
+//! scripts done on it and dealt, scripts whose bindings end, walks in pieces, and replays.
 //!
-//! There is no code here but tests. They use what the four crates hand out, and stand in a crate of
+//! There is no code here but tests. They use what the five crates hand out, and stand in a crate of
 //! their own since a crate with tests is proved twice, with them and without.
 #![tactic(auto)]
 
@@ -19,5 +19,7 @@ mod rebinding;
 mod registry;
 #[cfg(test)]
 mod replaying;
+#[cfg(test)]
+mod resuming;
 #[cfg(test)]
 mod run;
