@@ -14,6 +14,7 @@ use Rattle.rht_run.specs.declared.table.Table.{Table}
 use Rattle.rht_run.specs.Caused.{IsCaused}
 use Rattle.rht_run.specs.Passes.{IsPassOf, IsSamePass, book_of}
 use Rattle.rht_run.specs.Workers.{HasServedCalls}
+use Rattle.rht_walk.specs.WalkLaws.{first_bucket}
 use Rattle.rht_resume.specs.declared.resume.Piece.{Piece}
 use Rattle.rht_resume.specs.declared.resume.Piece.TheVariants.{Part, End, Again}
 use Rattle.rht_resume.specs.declared.resume.ResumeCall.{ResumeCall}
@@ -67,16 +68,11 @@ pub record IsTurned (turn : Turn) (piece : Option Piece) (old new : Walking) : T
   pub nodes : new.nodes ≡ old.nodes
   pub made : MatchOption piece (GoesOn turn new) (λ piece. turn ≡ Over (outcome_with piece new))
 
--- the bucket at which a walk begins
-abbrev pub bucket_of : Option Cursor → ℕ
-bucket_of None = 0
-bucket_of (Some cursor) = cursor.bucket
-
 -- the walk goes on at a later bucket than before, which a table may have
 pub record IsLater (spot : Spot) (new : Walking) : Type 0 where
   pub cursor : Cursor
   pub stands : new.spot ≡ Some (before cursor)
-  pub later : bucket_of spot.cursor < cursor.bucket
+  pub later : first_bucket spot.cursor < cursor.bucket
   pub there : cursor.bucket < most_buckets
 
 -- one walk was made from this spot, and the walk is as its answer has made it
@@ -90,6 +86,7 @@ pub record HasTurned {M : Type 0} (mix : ℕ → ℕ → ℕ → ℕ) (t : Table
   pub finished : (book_of now).finished ≡ (book_of before).finished ++ ended_with (walk_at spot) ending ∷ []
   pub cause : IfSome piece (λ piece. IsAgainCaused mix t piece before now)
   pub rises : piece ≡ None → IsLater spot new
+  pub room : piece ≡ None → length new.pairs ≤ limit
 
 -- ---- the pass
 
