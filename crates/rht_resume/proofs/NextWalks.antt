@@ -20,6 +20,11 @@ use Rattle.rht_resume.specs.Pieces.{Walking, Outcome, Turn, On, Over, start, beg
 use Rattle.rht_resume.specs.ServedPieces.{most_buckets, IsAgainCaused, outcome_with, IsTurned, IsLater, HasTurned, HasResumed}
 use Rattle.rht_resume.proofs.PieceLemmas.{IsUnderway, IsUnderway-none, IsUnderway-more, over-outcome, over-walks, ended_each-calls}
 
+-- a walk that isn't ended is where a `next` begins
+pub begun-open : (spot : Option Spot) → spot ≢ None → spot ≡ Some (begun spot)
+begun-open None open = absurd (open refl)
+begun-open (Some spot) open = refl
+
 -- A `next` that began at this spot has made so many walks and isn't over.
 pub record IsNextUnderway {M : Type 0} (mix : ℕ → ℕ → ℕ → ℕ) (t : Table M) (limit : ℕ) (first : Spot) (nodes : ℕ) (new : Walking)
     (count : ℕ) (old now : Pass M) : Type 0 where
@@ -103,14 +108,13 @@ module _ {M : Type 0} (mix : ℕ → ℕ → ℕ → ℕ) (t : Table M) (limit :
         spot_in {one} {other} same = cc
 
     -- or this one has ended it
-    pub HasResumed-over : (start_of : Walking) (piece : Piece) → start_of.spot ≡ Some first → start_of.nodes ≡ nodes → count < most_buckets
+    pub HasResumed-over : (start_of : Walking) (piece : Piece) → first ≡ begun start_of.spot → start_of.nodes ≡ nodes → count < most_buckets
         → HasTurned mix t limit spot walking new (Some piece) now after
         → HasResumed mix t limit start_of new piece old after
-    HasResumed-over start_of piece stands same_nodes few turned =
+    HasResumed-over start_of piece here same_nodes few turned =
         let over = turned.turned.made in
         let endings = so_far.endings ++ turned.ending ∷ [] in
         let many = so_far.many in
-        let here : first ≡ begun start_of.spot = ap begun (sym stands) in
         record {
           endings = endings;
           outcome =

@@ -64,12 +64,12 @@ module _ (limit : ℕ) (spot : Spot) (pairs : List (ℕ × ℕ)) (fresh : List (
       omega (arith, ap length on-taking.1.all, length-append pairs fresh, short, within)
 
 -- the piece isn't that the walk has to begin anew
-abbrev IsWalked : Piece → Type 0
+abbrev pub IsWalked : Piece → Type 0
 IsWalked Part = Unit {0}
 IsWalked (End len) = Unit {0}
 IsWalked (Again table) = ⊥
 
-abbrev OverWalked : Turn → Type 0
+abbrev pub OverWalked : Turn → Type 0
 OverWalked (On spot pairs) = Unit {0}
 OverWalked (Over outcome) = IsWalked outcome.piece
 OverWalked Never = Unit {0}

@@ -1,6 +1,6 @@
 -- What follows for resumed walks and for the calls that commands stand for, in the words of pieces, ports and owners.
-use Rattle.std.specs.Prelude.{◌≡◌, ◌≢◌, ℕ, ◌+◌, ◌<◌, ◌≤◌, ◌↔◌, Option, Some, None, List, [], ◌∷◌, ◌++◌, length, map, slice_index}
-use Rattle.std.specs.List.{AllByRecursion, Any, flat_map}
+use Rattle.std.specs.Prelude.{◌≡◌, ◌≢◌, ℕ, ◌+◌, ◌<◌, ◌≤◌, ◌↔◌, ◌⊎◌, Option, Some, None, List, [], ◌∷◌, ◌++◌, length, map, slice_index}
+use Rattle.std.specs.List.{AllByRecursion, flat_map}
 use Rattle.rht_words.specs.declared.env.Env.{Env}
 use Rattle.rht_words.specs.Members.{In, IsDistinct}
 use Rattle.rht_words.specs.Places.{Section, place_of}
@@ -42,11 +42,16 @@ CutsRightly =
     (limit : ℕ) (spot : Spot) (endings : List Ending) (outcome : Outcome) → outcome_of limit spot endings ≡ Some outcome
     → IsPieceOf limit outcome.piece outcome.pairs outcome.spot
 
+-- one of these calls was answered that it has to begin anew with this table
+abbrev pub AnswersAgain : ℕ → List Ending → Type 0
+AnswersAgain table [] = ⊥
+AnswersAgain table (ending ∷ endings) = (ending.answer.reply ≡ replies.Again table) ⊎ AnswersAgain table endings
+
 -- The piece says that the walk has to begin anew exactly where one of the walks was answered so, with the same table.
 abbrev pub BeginsAnewByWalk : Type 0
 BeginsAnewByWalk =
     (limit : ℕ) (spot : Spot) (endings : List Ending) (outcome : Outcome) (table : ℕ) → outcome_of limit spot endings ≡ Some outcome
-    → (outcome.piece ≡ Again table) ↔ Any (λ ending. ending.answer.reply ≡ replies.Again table) endings
+    → (outcome.piece ≡ Again table) ↔ AnswersAgain table endings
 
 -- How a worker's calls ended decides what its commands were answered.
 abbrev pub DecidesAnswers : Type 0
