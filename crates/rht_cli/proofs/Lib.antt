@@ -20,5 +20,7 @@ pub mod PrintedTexts
 pub mod DealTexts
 -- what a lease script's commands were answered is printed as a text of the form `lease`
 pub mod LeaseTexts
+-- what a resume script's commands were answered is printed as a text of the form `resume`
+pub mod ResumeTexts
 -- how a form that reads its input is served
 pub mod ServedScripts

@@ -4,14 +4,16 @@ use Rattle.std.specs.Io.KnownBytes.{Appends}
 use Rattle.rht_script.specs.declared.script.ScriptFault.{ScriptFault}
 use Rattle.rht_script.specs.Dealt.{dealing_of}
 use Rattle.rht_lease.specs.Reading.{lease_reading_of}
+use Rattle.rht_resume.specs.Reading.{resume_reading_of}
 use Rattle.rht_cli.specs.declared.ending.Failure.{Failure}
 use Rattle.rht_cli.specs.declared.form.Form.{Form}
-use Rattle.rht_cli.specs.declared.form.Form.TheVariants.{Deal, Lease}
+use Rattle.rht_cli.specs.declared.form.Form.TheVariants.{Deal, Lease, Resume}
 use Rattle.rht_cli.specs.Forms.{Prints, IsPrintedOf}
 use Rattle.rht_cli.specs.Endings.{Serves, ending_of, status_of}
 use Rattle.rht_cli.specs.DealText.{IsDealText}
 use Rattle.rht_cli.specs.LeaseText.{IsLeaseText}
-use Rattle.rht_cli.specs.Printed.{HasPrinted, DealHeadline, LeaseHeadline}
+use Rattle.rht_cli.specs.ResumeText.{IsResumeText}
+use Rattle.rht_cli.specs.Printed.{HasPrinted, DealHeadline, LeaseHeadline, ResumeHeadline}
 use Rattle.rht_cli.proofs.Headlines.{IsDone-served}
 
 -- a text of what was read was printed
@@ -39,6 +41,12 @@ unfolding Prints
 LeaseHeadline-printed left left_after held held_after text printed written =
     HasPrinted-written lease_reading_of IsLeaseText left left_after held held_after text printed written
 
+ResumeHeadline-printed : (left left_after held held_after : Option (List ℕ)) (text : List ℕ) → Prints Resume left left_after text
+    → Appends held held_after text → ResumeHeadline left left_after held held_after
+unfolding Prints
+ResumeHeadline-printed left left_after held held_after text printed written =
+    HasPrinted-written resume_reading_of IsResumeText left left_after held held_after text printed written
+
 module _ {S O : Type 0} (left : S → Option (List ℕ)) (sfaults : S → ℕ) (held : O → Option (List ℕ)) (ofaults : O → ℕ)
     (form : Form) (s s' : S) (o o' : O) (served : Result (Unit {0}) Failure)
     (serves : Serves left sfaults held ofaults form s s' o o' served) (zero : status_of (ending_of served) ≡ 0) where
@@ -54,4 +62,11 @@ module _ {S O : Type 0} (left : S → Option (List ℕ)) (sfaults : S → ℕ) (
   LeaseHeadline-served is =
       let done = IsDone-served left sfaults held ofaults form s s' o o' served serves zero in
       LeaseHeadline-printed (left s) (left s') (held o) (held o') done.text
+      (subst (λ (f : Form). Prints f (left s) (left s') done.text) (sym is) done.printed) done.written
+
+  -- and for `resume`
+  pub ResumeHeadline-served : Resume ≡ form → ResumeHeadline (left s) (left s') (held o) (held o')
+  ResumeHeadline-served is =
+      let done = IsDone-served left sfaults held ofaults form s s' o o' served serves zero in
+      ResumeHeadline-printed (left s) (left s') (held o) (held o') done.text
       (subst (λ (f : Form). Prints f (left s) (left s') done.text) (sym is) done.printed) done.written

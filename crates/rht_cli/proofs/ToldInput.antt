@@ -11,10 +11,11 @@ use Rattle.rht_script.specs.Dealt.{dealt_of, dealing_of}
 use Rattle.rht_script.specs.Grammar.{Said, most_bytes, script_by, reading_of}
 use Rattle.rht_script.proofs.ReadingLemmas.{reading_by-front, reading_by-long, reading_of-front, reading_of-long}
 use Rattle.rht_lease.specs.Reading.{SaidLeases, leases_from, lease_reading_of}
+use Rattle.rht_resume.specs.Reading.{SaidResume, resume_from, resume_reading_of}
 use Rattle.rht_check.specs.Reading.{SaidClaim, claimed_from, claim_reading_of}
 use Rattle.rht_cli.specs.declared.form.Form.{Form}
-use Rattle.rht_cli.specs.declared.form.Form.TheVariants.{Run, Replay, Gen, Deal, Lease, Check}
-use Rattle.rht_cli.specs.Input.{IsRead, IsReadAs, IsAtFault, IsScriptRead, IsDealRead, IsLeaseRead, IsClaimRead}
+use Rattle.rht_cli.specs.declared.form.Form.TheVariants.{Run, Replay, Gen, Deal, Lease, Check, Resume}
+use Rattle.rht_cli.specs.Input.{IsRead, IsReadAs, IsAtFault, IsScriptRead, IsDealRead, IsLeaseRead, IsResumeRead, IsClaimRead}
 use Rattle.rht_cli.specs.Forms.{ReadsScript, Prints, HasInput, IsFaultOf}
 
 -- what was read of told bytes, to their end, is all of them
@@ -55,6 +56,13 @@ unfolding lease_reading_of
 lease_bounded = record {
   front = reading_by-front leases_from;
   long = λ bytes said long says. (let fault = reading_by-long leases_from bytes long in cc);
+}
+
+pub resume_bounded : IsBounded resume_reading_of
+unfolding resume_reading_of
+resume_bounded = record {
+  front = reading_by-front resume_from;
+  long = λ bytes said long says. (let fault = reading_by-long resume_from bytes long in cc);
 }
 
 pub claim_bounded : IsBounded claim_reading_of
@@ -166,6 +174,8 @@ not_both Lease bytes rest left_after fault input refused =
     said_or_fault lease_reading_of lease_bounded bytes rest left_after input.said fault input.read refused
 not_both Check bytes rest left_after fault input refused =
     said_or_fault claim_reading_of claim_bounded bytes rest left_after input.said fault input.read refused
+not_both Resume bytes rest left_after fault input refused =
+    said_or_fault resume_reading_of resume_bounded bytes rest left_after input.said fault input.read refused
 
 -- where a form prints a text its input was read
 pub HasInput-printed : (form : Form) (left left_after : Option (List ℕ)) (text : List ℕ) → Prints form left left_after text
@@ -177,6 +187,7 @@ HasInput-printed (Gen number) left left_after text printed = printed.0
 HasInput-printed Deal left left_after text printed = record { said = printed.said; read = printed.read }
 HasInput-printed Lease left left_after text printed = record { said = printed.said; read = printed.read }
 HasInput-printed Check left left_after text printed = record { said = printed.said; read = printed.read }
+HasInput-printed Resume left left_after text printed = record { said = printed.said; read = printed.read }
 
 -- told input has one first fault
 pub one_fault : (form : Form) (bytes : List ℕ) (rest left_after : Option (List ℕ))
@@ -195,6 +206,8 @@ one_fault Lease bytes rest left_after first second one other =
     one_first lease_reading_of lease_bounded bytes rest left_after first second one other
 one_fault Check bytes rest left_after first second one other =
     one_first claim_reading_of claim_bounded bytes rest left_after first second one other
+one_fault Resume bytes rest left_after first second one other =
+    one_first resume_reading_of resume_bounded bytes rest left_after first second one other
 
 -- a script that was read is the input of a form that reads one
 pub HasInput-script : (form : Form) → ReadsScript form → (left left_after : Option (List ℕ)) (said : Said)
@@ -206,6 +219,7 @@ HasInput-script (Gen number) reads left left_after said read = absurd reads
 HasInput-script Deal reads left left_after said read = absurd reads
 HasInput-script Lease reads left left_after said read = absurd reads
 HasInput-script Check reads left left_after said read = absurd reads
+HasInput-script Resume reads left left_after said read = absurd reads
 
 -- and other bytes that were read are input that is at fault
 pub IsFaultOf-script : (form : Form) → ReadsScript form → (left left_after : Option (List ℕ)) (fault : ScriptFault)
@@ -217,6 +231,7 @@ IsFaultOf-script (Gen number) reads left left_after fault read = absurd reads
 IsFaultOf-script Deal reads left left_after fault read = absurd reads
 IsFaultOf-script Lease reads left left_after fault read = absurd reads
 IsFaultOf-script Check reads left left_after fault read = absurd reads
+IsFaultOf-script Resume reads left left_after fault read = absurd reads
 
 -- a dealt script that was read is the input of `deal`, and other bytes are input that is at fault
 pub HasInput-deal : (left left_after : Option (List ℕ)) (said : Said) → IsDealRead left left_after said
@@ -239,6 +254,17 @@ pub IsFaultOf-leases : (left left_after : Option (List ℕ)) (fault : ScriptFaul
     → IsFaultOf Lease left left_after fault
 unfolding IsFaultOf
 IsFaultOf-leases left left_after fault read = read
+
+-- a resume script that was read is the input of `resume`, and other bytes are input that is at fault
+pub HasInput-resume : (left left_after : Option (List ℕ)) (said : SaidResume) → IsResumeRead left left_after said
+    → HasInput Resume left left_after
+unfolding HasInput
+HasInput-resume left left_after said read = record { said = said; read = read }
+
+pub IsFaultOf-resume : (left left_after : Option (List ℕ)) (fault : ScriptFault) → IsAtFault resume_reading_of left left_after fault
+    → IsFaultOf Resume left left_after fault
+unfolding IsFaultOf
+IsFaultOf-resume left left_after fault read = read
 
 -- a claimed history that was read is the input of `check`, and other bytes are input that is at fault
 pub HasInput-claim : (left left_after : Option (List ℕ)) (said : SaidClaim) → IsClaimRead left left_after said

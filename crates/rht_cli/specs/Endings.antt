@@ -57,7 +57,7 @@ failure_line Memory = codes "rht: out of memory\n"
 
 abbrev pub ending_line : Ending → List ℕ
 ending_line Done = []
-ending_line Usage = codes "rht: usage: rht run | rht replay | rht gen NUMBER | rht deal | rht lease | rht check\n"
+ending_line Usage = codes "rht: usage: rht run | rht replay | rht gen NUMBER | rht deal | rht lease | rht check | rht resume\n"
 ending_line (Unserved failure) = failure_line failure
 
 -- the line on standard error, by the status; at 2 it is the line of the script's first fault instead

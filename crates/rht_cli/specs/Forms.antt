@@ -9,15 +9,17 @@ use Rattle.rht_script.specs.declared.script.ScriptFault.{ScriptFault}
 use Rattle.rht_script.specs.Grammar.{reading_of}
 use Rattle.rht_script.specs.Dealt.{dealing_of}
 use Rattle.rht_cli.specs.declared.form.Form.{Form}
-use Rattle.rht_cli.specs.declared.form.Form.TheVariants.{Run, Replay, Gen, Deal, Lease, Check}
+use Rattle.rht_cli.specs.declared.form.Form.TheVariants.{Run, Replay, Gen, Deal, Lease, Check, Resume}
 use Rattle.rht_lease.specs.Reading.{lease_reading_of}
 use Rattle.rht_check.specs.Reading.{claim_reading_of}
+use Rattle.rht_resume.specs.Reading.{resume_reading_of}
 use Rattle.rht_cli.specs.Input.{IsReadAs, IsAtFault}
 use Rattle.rht_cli.specs.RunText.{whole_text, IsRunText}
 use Rattle.rht_cli.specs.GenText.{IsGenText}
 use Rattle.rht_cli.specs.ReplayText.{IsReplayText}
 use Rattle.rht_cli.specs.DealText.{IsDealText}
 use Rattle.rht_cli.specs.LeaseText.{IsLeaseText}
+use Rattle.rht_cli.specs.ResumeText.{IsResumeText}
 use Rattle.rht_cli.specs.VerdictText.{IsVerdictText}
 
 -- the form that a single word is
@@ -28,6 +30,7 @@ form_of_word word =
     else if bytes_eq word (codes "deal") then Some Deal
     else if bytes_eq word (codes "lease") then Some Lease
     else if bytes_eq word (codes "check") then Some Check
+    else if bytes_eq word (codes "resume") then Some Resume
     else None
 
 -- the form `gen` of the number that digits stand for, where there are some and it has 32 bits
@@ -64,8 +67,9 @@ ReadsScript (Gen number) = ⊥
 ReadsScript Deal = ⊥
 ReadsScript Lease = ⊥
 ReadsScript Check = ⊥
+ReadsScript Resume = ⊥
 
--- the form reads its input, be it a script, a dealt one, a lease script or a claimed history
+-- the form reads its input, be it a script, a dealt one, a lease script, a resume script or a claimed history
 abbrev pub ReadsInput : Form → Type 0
 ReadsInput Run = Unit {0}
 ReadsInput Replay = Unit {0}
@@ -73,6 +77,7 @@ ReadsInput (Gen number) = ⊥
 ReadsInput Deal = Unit {0}
 ReadsInput Lease = Unit {0}
 ReadsInput Check = Unit {0}
+ReadsInput Resume = Unit {0}
 
 -- The input was read by such a reading, and the text is one for what it says.
 pub record IsPrintedOf {X : Type 0} (reading : List ℕ → Result X ScriptFault) (IsText : X → List ℕ → Type 0)
@@ -90,13 +95,15 @@ Prints (Gen number) left left_after text = (left_after ≡ left) × IsGenText nu
 Prints Deal left left_after text = IsPrintedOf dealing_of IsDealText left left_after text
 Prints Lease left left_after text = IsPrintedOf lease_reading_of IsLeaseText left left_after text
 Prints Check left left_after text = IsPrintedOf claim_reading_of IsVerdictText left left_after text
+Prints Resume left left_after text = IsPrintedOf resume_reading_of IsResumeText left left_after text
 
 -- Reading the bytes that are left leaves the rest, and they say something.
 pub record SaysBy {X : Type 0} (reading : List ℕ → Result X ScriptFault) (left rest : Option (List ℕ)) : Type 0 where
   pub said : X
   pub read : IsReadAs reading left rest said
 
--- what is left is this form's input, of which reading it leaves the rest: a script, a dealt one, a lease script, or a claimed history
+-- what is left is this form's input, of which reading it leaves the rest: a script, a dealt one, a lease script, a resume script, or a
+-- claimed history
 unfoldable pub HasInput : Form → Option (List ℕ) → Option (List ℕ) → Type 0
 HasInput Run left rest = SaysBy reading_of left rest
 HasInput Replay left rest = SaysBy reading_of left rest
@@ -104,6 +111,7 @@ HasInput (Gen number) left rest = rest ≡ left
 HasInput Deal left rest = SaysBy dealing_of left rest
 HasInput Lease left rest = SaysBy lease_reading_of left rest
 HasInput Check left rest = SaysBy claim_reading_of left rest
+HasInput Resume left rest = SaysBy resume_reading_of left rest
 
 -- what it means that this form's input was read and is at fault
 unfoldable pub IsFaultOf : Form → Option (List ℕ) → Option (List ℕ) → ScriptFault → Type 0
@@ -113,3 +121,4 @@ IsFaultOf (Gen number) left left_after fault = ⊥
 IsFaultOf Deal left left_after fault = IsAtFault dealing_of left left_after fault
 IsFaultOf Lease left left_after fault = IsAtFault lease_reading_of left left_after fault
 IsFaultOf Check left left_after fault = IsAtFault claim_reading_of left left_after fault
+IsFaultOf Resume left left_after fault = IsAtFault resume_reading_of left left_after fault

@@ -8,6 +8,7 @@ use Rattle.rht_script.specs.Grammar.{most_bytes, Said, reading_of}
 use Rattle.rht_script.specs.Dealt.{dealing_of}
 use Rattle.rht_lease.specs.Reading.{SaidLeases, lease_reading_of}
 use Rattle.rht_check.specs.Reading.{SaidClaim, claim_reading_of}
+use Rattle.rht_resume.specs.Reading.{SaidResume, resume_reading_of}
 use Rattle.rht_cli.specs.declared.ending.Failure.{Failure}
 use Rattle.rht_cli.specs.declared.ending.Failure.TheVariants.{Fault, Read, Write, Memory}
 
@@ -56,7 +57,7 @@ IsUnread reading left left_after before after Memory = Unit {0}
 
 -- ---- scripts and claimed histories
 
--- The input was read to its end and is a script, a dealt one, a lease script or a claimed history, which says this.
+-- The input was read to its end and is a script, a dealt one, a lease script, a resume script or a claimed history, which says this.
 abbrev pub IsScriptRead : Option (List ℕ) → Option (List ℕ) → Said → Type 0
 IsScriptRead = IsReadAs reading_of
 
@@ -65,6 +66,9 @@ IsDealRead = IsReadAs dealing_of
 
 abbrev pub IsLeaseRead : Option (List ℕ) → Option (List ℕ) → SaidLeases → Type 0
 IsLeaseRead = IsReadAs lease_reading_of
+
+abbrev pub IsResumeRead : Option (List ℕ) → Option (List ℕ) → SaidResume → Type 0
+IsResumeRead = IsReadAs resume_reading_of
 
 abbrev pub IsClaimRead : Option (List ℕ) → Option (List ℕ) → SaidClaim → Type 0
 IsClaimRead = IsReadAs claim_reading_of

@@ -10,6 +10,8 @@ pub mod ReplayText
 pub mod DealText
 -- the text of a lease script's commands
 pub mod LeaseText
+-- the text of a resume script's commands
+pub mod ResumeText
 -- the text of the verdict on a claimed history
 pub mod VerdictText
 -- the command forms: their words, their input and their text
@@ -18,5 +20,5 @@ pub mod Forms
 pub mod Endings
 -- the headline
 pub mod Headline
--- the headlines of the forms `deal` and `lease`
+-- the headlines of the forms `deal`, `lease` and `resume`
 pub mod Printed

@@ -89,7 +89,7 @@ impl Ending {
             Ending::Done => Ok(()),
             Ending::Usage => put_all(
                 err,
-                b"rht: usage: rht run | rht replay | rht gen NUMBER | rht deal | rht lease | rht check\n",
+                b"rht: usage: rht run | rht replay | rht gen NUMBER | rht deal | rht lease | rht check | rht resume\n",
             ),
             Ending::Unserved(failure) => failure.write(err),
         }

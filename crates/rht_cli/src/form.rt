@@ -26,6 +26,9 @@ pub enum Form {
     Lease,
     /// `check`: reads a claimed history, and prints whether it is legal, or what is wrong with it.
     Check,
+    /// `resume`: reads a resume script, whose walks come in pieces, and prints what its commands are answered
+    /// and the last bindings.
+    Resume,
 }
 
 impl Form {
@@ -55,6 +58,8 @@ fn form_of_word(word: &str) -> Option<Form>
         Some(Form::Lease)
     } else if word == "check" {
         Some(Form::Check)
+    } else if word == "resume" {
+        Some(Form::Resume)
     } else {
         None
     }

@@ -1,5 +1,5 @@
 //! Reading the whole input, and no more of it than a script can have, as a script, as a dealt one, as a
-//! lease script, or as a claimed history.
+//! lease script, as a resume script, or as a claimed history.
 
 ghost use Rattle.std.specs.Prelude.{◌≡◌, ◌<◌, ◌≤◌, length, vec_len, IfOk, IfErr};
 ghost use Rattle.rht_script.specs.Grammar.{reading_of};
@@ -8,14 +8,17 @@ ghost use Rattle.rht_script.specs.Dealt.{dealing_of, IsDealtScript};
 ghost use Rattle.rht_script.specs.Sound.{IsSoundScript};
 ghost use Rattle.rht_lease.specs.Reading.{lease_reading_of, said_by_leases};
 ghost use Rattle.rht_lease.specs.Scripts.{IsSoundLeases};
+ghost use Rattle.rht_resume.specs.Reading.{resume_reading_of, said_by_resume};
+ghost use Rattle.rht_resume.specs.Scripts.{IsSoundResume};
 ghost use Rattle.rht_check.specs.Claims.{IsSoundClaim};
 ghost use Rattle.rht_check.specs.Reading.{claim_reading_of, said_by_claim};
-ghost use Rattle.rht_cli.specs.Input.{IsRead, IsMore, IsReadFault, IsScriptRead, IsDealRead, IsLeaseRead, IsClaimRead, IsUnread};
+ghost use Rattle.rht_cli.specs.Input.{IsRead, IsMore, IsReadFault, IsScriptRead, IsDealRead, IsLeaseRead, IsResumeRead, IsClaimRead, IsUnread};
 
 use crate::ending::Failure;
 use rht_check::{Claim, read_claim};
 use rht_io::Source;
 use rht_lease::{LeaseScript, read_leases};
+use rht_resume::{ResumeScript, read_resume};
 use rht_script::{MOST_BYTES, Script, read, read_dealt};
 use std::alloc::{AllocError, Global};
 
@@ -64,6 +67,17 @@ pub fn read_claimed<S: Source>(alloc: Global, source: &mut S) -> Result<Claim, F
 {
     let bytes = read_all(alloc, source)?;
     Ok(read_claim(alloc, &bytes)?)
+}
+
+/// Reads the resume script that the input is.
+pub fn read_resuming<S: Source>(alloc: Global, source: &mut S) -> Result<ResumeScript, Failure>
+    ensures read { IfOk result (λ script. IsResumeRead (S.left source.old) (S.left source.new) (said_by_resume script)) }
+    ensures sound { IfOk result IsSoundResume }
+    ensures unread { IfErr result (IsUnread resume_reading_of (S.left source.old) (S.left source.new)
+        (S.faults source.old) (S.faults source.new)) }
+{
+    let bytes = read_all(alloc, source)?;
+    Ok(read_resume(alloc, &bytes)?)
 }
 
 /// Reads the input to its end, or until it has one byte more than a script can have.

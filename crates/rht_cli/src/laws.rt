@@ -6,9 +6,10 @@ ghost use Rattle.rht_script.specs.Grammar.{Said, reading_of};
 ghost use Rattle.rht_script.specs.Reading.{FirstFault};
 ghost use Rattle.rht_script.specs.Dealt.{dealing_of};
 ghost use Rattle.rht_lease.specs.Reading.{SaidLeases, lease_reading_of};
+ghost use Rattle.rht_resume.specs.Reading.{SaidResume, resume_reading_of};
 ghost use Rattle.rht_check.specs.Reading.{SaidClaim, claim_reading_of};
 ghost use Rattle.rht_cli.specs.declared.form.Form.{Form};
-ghost use Rattle.rht_cli.specs.declared.form.Form.TheVariants.{Gen, Deal, Lease, Check};
+ghost use Rattle.rht_cli.specs.declared.form.Form.TheVariants.{Gen, Deal, Lease, Check, Resume};
 ghost use Rattle.rht_cli.specs.Forms.{form_of, ReadsScript};
 
 use crate::program::run;
@@ -19,7 +20,8 @@ use std::thread::Threads;
 
 /// The status of a run on these bytes where nothing outside can fail. A form that reads a script
 /// has 0 for a script and 2 for other bytes, or 5 where memory ran out; `deal` has so for dealt scripts,
-/// `lease` for lease scripts, and `check` for claimed histories; `gen` has 0 or 5; and where the words are no command form the status is 1.
+/// `lease` for lease scripts, `check` for claimed histories, and `resume` for resume scripts; `gen` has 0 or 5; and where the words are no
+/// command form the status is 1.
 pub fn complete<R: Threads + Wait + Sync, G: Gate + Sync>(
     rt: &R,
     alloc: Global,
@@ -45,6 +47,10 @@ pub fn complete<R: Threads + Wait + Sync, G: Gate + Sync>(
         → claim_reading_of bytes.items ≡ Ok said → (result ≡ 0) ⊎ (result ≡ 5) }
     ensures unclaimed { (fault : ScriptFault) → form_of (map string_bytes words.now.items) ≡ Some Check
         → claim_reading_of bytes.items ≡ Err fault → (result ≡ 2) ⊎ (result ≡ 5) }
+    ensures resumed { (said : SaidResume) → form_of (map string_bytes words.now.items) ≡ Some Resume
+        → resume_reading_of bytes.items ≡ Ok said → (result ≡ 0) ⊎ (result ≡ 5) }
+    ensures unresumed { (fault : ScriptFault) → form_of (map string_bytes words.now.items) ≡ Some Resume
+        → resume_reading_of bytes.items ≡ Err fault → (result ≡ 2) ⊎ (result ≡ 5) }
     ensures generated { (number : ℕ) → form_of (map string_bytes words.now.items) ≡ Some (Gen number)
         → (result ≡ 0) ⊎ (result ≡ 5) }
 {

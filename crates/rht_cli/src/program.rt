@@ -2,7 +2,7 @@
 //!
 //! Stands on the forms, the reader of the input, the script's writer, the registry whose workers do a
 //! script's commands on a table or which replays it, the closing of that table, the dealing of a script, the
-//! doing of a lease script, the judge of claimed histories, and the endings. Begin with the clauses of `run`:
+//! doing of a lease script and of a resume script, the judge of claimed histories, and the endings. Begin with the clauses of `run`:
 //! they say what each status means.
 
 ghost use Rattle.std.specs.Prelude.{◌≡◌, ◌≢◌, ◌≤◌, ◌↔◌, ◌⊎◌, None, Some, Option, List, ℕ, string_bytes, map, IfOk};
@@ -18,16 +18,18 @@ ghost use Rattle.rht_registry.specs.Players.{IsReplayed};
 ghost use Rattle.rht_deal.specs.Dealing.{IsDealing};
 ghost use Rattle.rht_lease.specs.Leasing.{IsLeasing};
 ghost use Rattle.rht_lease.specs.Scripts.{IsSoundLeases};
+ghost use Rattle.rht_resume.specs.Resuming.{IsResuming};
+ghost use Rattle.rht_resume.specs.Scripts.{IsSoundResume};
 ghost use Rattle.rht_cli.specs.declared.form.Form.{Form};
-ghost use Rattle.rht_cli.specs.declared.form.Form.TheVariants.{Run, Replay, Gen, Deal, Lease, Check};
+ghost use Rattle.rht_cli.specs.declared.form.Form.TheVariants.{Run, Replay, Gen, Deal, Lease, Check, Resume};
 ghost use Rattle.rht_cli.specs.Forms.{form_of, HasForm, ReadsInput, HasInput, IsFaultOf};
 ghost use Rattle.rht_cli.specs.Endings.{IsDone, IsCutShort, Serves, ServesUnread, served_by, replayed_by, ending_of, status_line};
 ghost use Rattle.rht_cli.specs.Headline.{Headline};
-ghost use Rattle.rht_cli.specs.Printed.{DealHeadline, LeaseHeadline};
+ghost use Rattle.rht_cli.specs.Printed.{DealHeadline, LeaseHeadline, ResumeHeadline};
 
 use crate::ending::{Ending, Failure};
 use crate::form::Form;
-use crate::input::{read_claimed, read_deal, read_leasing, read_script};
+use crate::input::{read_claimed, read_deal, read_leasing, read_resuming, read_script};
 use rht_check::{check, write_verdict};
 use rht_deal::{Dealt, run_dealt, write_dealt};
 use rht_io::{Failed, Gate, Sink, Source};
@@ -35,6 +37,7 @@ use rht_lease::{LeaseOutcome, LeaseScript, run_leases, write_leases};
 use rht_model::{Closed, Replies};
 use rht_policy::{Lookup3, Low, Mix};
 use rht_registry::{ReplayError, replay, run_workers};
+use rht_resume::{ResumeOutcome, ResumeScript, run_resumed, write_resumed};
 use rht_run::Table;
 use rht_script::{Script, generated, write_run, write_summary};
 use rht_words::Hash;
@@ -44,8 +47,8 @@ use std::thread::Threads;
 
 /// Runs the program on the words after its name, and answers its exit status.
 ///
-/// The input comes from the source: a script, a dealt script, a lease script or a claimed history, as the form
-/// has it; `gen` reads none. The text goes to `out`, and the line of a status above 0 to `err`, whose faults
+/// The input comes from the source: a script, a dealt script, a lease script, a resume script or a claimed
+/// history, as the form has it; `gen` reads none. The text goes to `out`, and the line of a status above 0 to `err`, whose faults
 /// change no status. The gate hears of each command before it, and after it where there is memory to keep what
 /// it was answered; `replay` and `check` don't ask it.
 pub fn run<R: Threads + Wait + Sync, S: Source, O: Sink, E: Sink, G: Gate + Sync>(
@@ -74,6 +77,10 @@ pub fn run<R: Threads + Wait + Sync, S: Source, O: Sink, E: Sink, G: Gate + Sync
     // history fits.
     ensures leased { result ≡ 0 → form_of (map string_bytes words.now.items) ≡ Some Lease
         → LeaseHeadline (S.left source.old) (S.left source.new) (O.held out.old) (O.held out.new) }
+
+    // And for a resume script, of which a `next` stands for its walks.
+    ensures resumed { result ≡ 0 → form_of (map string_bytes words.now.items) ≡ Some Resume
+        → ResumeHeadline (S.left source.old) (S.left source.new) (O.held out.old) (O.held out.new) }
 
     // 1: exactly where the words are no command form. Nothing is read, and nothing written to out.
     ensures usage { (result ≡ 1) ↔ (form_of (map string_bytes words.now.items) ≡ None) }
@@ -165,6 +172,7 @@ fn serve<R: Threads + Wait + Sync, S: Source, O: Sink, G: Gate + Sync>(
         Form::Deal => serve_deal(rt, alloc, source, out, gate),
         Form::Lease => serve_lease(rt, alloc, source, out, gate),
         Form::Check => serve_check(alloc, source, out),
+        Form::Resume => serve_resume(rt, alloc, source, out, gate),
     }
 }
 
@@ -253,6 +261,21 @@ fn serve_check<S: Source, O: Sink>(
     served_by(write_verdict(out, &verdict))
 }
 
+/// Reads a resume script, does its commands, and prints what they are answered.
+fn serve_resume<R: Threads + Wait + Sync, S: Source, O: Sink, G: Gate + Sync>(
+    rt: &R,
+    alloc: Global,
+    source: &mut S,
+    out: &mut O,
+    gate: &G,
+) -> Result<(), Failure>
+    ensures { Serves S.left S.faults O.held O.faults Resume source.old source.new out.old out.new result }
+{
+    let script = read_resuming(alloc, source)?;
+    let outcome = resume_hashed(rt, alloc, &script, gate)?;
+    served_by(write_resumed(out, &outcome))
+}
+
 /// Replays a script on a table whose ports are hashed as its config says.
 fn replay_hashed<O: Sink>(alloc: Global, script: &Script, out: &mut O) -> Result<(), ReplayError>
     requires { IsSoundScript script.now }
@@ -297,6 +320,24 @@ fn lease_hashed<R: Threads + Wait + Sync, G: Gate + Sync>(
     match script.config.hash {
         Hash::Mix => run_leases::<Lookup3, _, _>(rt, alloc, script, gate),
         Hash::Low => run_leases::<Low, _, _>(rt, alloc, script, gate),
+    }
+}
+
+/// Does a resume script's commands on a table whose ports are hashed as its config says. The one refusal is
+/// want of memory.
+fn resume_hashed<R: Threads + Wait + Sync, G: Gate + Sync>(
+    rt: &R,
+    alloc: Global,
+    script: &ResumeScript,
+    gate: &G,
+) -> Result<ResumeOutcome, AllocError>
+    requires { IsSoundResume script.now }
+    ensures { IfOk result (λ outcome. IsResuming script.now.config script.now.auto script.now.commands.items outcome.replies.items
+        outcome.closed) }
+{
+    match script.config.hash {
+        Hash::Mix => run_resumed::<Lookup3, _, _>(rt, alloc, script, gate),
+        Hash::Low => run_resumed::<Low, _, _>(rt, alloc, script, gate),
     }
 }
 

@@ -23,7 +23,7 @@ mod moves;
 mod walks;
 
 const USAGE: &str =
-    "rht: usage: rht run | rht replay | rht gen NUMBER | rht deal | rht lease | rht check\n";
+    "rht: usage: rht run | rht replay | rht gen NUMBER | rht deal | rht lease | rht check | rht resume\n";
 
 const NO_TABLE_LINE: &str = "rht: line 1: no table line\n";
 

@@ -25,6 +25,7 @@ use Rattle.rht_script.proofs.SayableScripts.{IsSettledTable, HasForm, table_sett
 use Rattle.rht_resume.specs.declared.resume.ResumeCall.{ResumeCall}
 use Rattle.rht_resume.specs.declared.resume.ResumeCall.TheVariants as asks
 use Rattle.rht_resume.specs.declared.resume.ResumeScript.{ResumeScript}
+use Rattle.rht_resume.specs.Answers.{commands_of}
 use Rattle.rht_resume.specs.Scripts.{limits_of_pieces, is_sound_ask, is_sound_command, IsSoundResume}
 use Rattle.rht_resume.specs.ResumeLines.{is_own_verb, piece_of, own_of, begins_so, has_own_verb, asked_of, own_line_of, plain_of, resume_line_of, IsSoundTable, coded_at}
 use Rattle.rht_resume.specs.Reading.{SaidResume, saying, commands_from, resume_below, resume_from, resume_reading_of, said_by_resume, IsResumeScript}
@@ -188,3 +189,17 @@ sound-at config (command ∷ commands) zero default all within =
 sound-at config (command ∷ commands) (suc i) default all within =
     sound-at config commands i default
     (and_parts (is_sound_command config command) (list_all (is_sound_command config) commands) all).1 (omega (arith, within))
+
+-- with one worker all commands are its own, in their order
+pub commands_of-one : (config : Config) (commands : List (ℕ × ResumeCall)) → config.callers ≡ 1
+    → list_all (is_sound_command config) commands ≡ true → commands_of 1 commands ≡ map (λ command. command.1) commands
+commands_of-one config [] one all = refl
+commands_of-one config (command ∷ commands) one all =
+    let parts = and_parts (is_sound_command config command) (list_all (is_sound_command config) commands) all in
+    let within = (and_parts (is_within (worker_limits config) command.0) (is_sound_ask config command.1) parts.0).0 in
+    let bounds = and_parts (nat_le 1 command.0) (nat_le command.0 config.callers) within in
+    let low = leb-true 1 command.0 bounds.0 in
+    let high = leb-true command.0 config.callers bounds.1 in
+    let own : command.0 ≡ 1 = omega (arith, low, high, one) in
+    ap (λ b. cond b (command.1 ∷ commands_of 1 commands) (commands_of 1 commands)) (eq-eqb command.0 1 own)
+    ∙ ap (λ l. command.1 ∷ l) (commands_of-one config commands one parts.1)

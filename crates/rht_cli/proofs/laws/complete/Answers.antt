@@ -2,10 +2,11 @@ use Rattle.std.proofs.Common.{[], Some, ap, inl, inr}
 use Rattle.rht_script.specs.Grammar.{reading_of}
 use Rattle.rht_script.specs.Dealt.{dealing_of}
 use Rattle.rht_lease.specs.Reading.{lease_reading_of}
+use Rattle.rht_resume.specs.Reading.{resume_reading_of}
 use Rattle.rht_check.specs.Reading.{claim_reading_of}
-use Rattle.rht_cli.specs.declared.form.Form.TheVariants.{Gen, Deal, Lease, Check}
+use Rattle.rht_cli.specs.declared.form.Form.TheVariants.{Gen, Deal, Lease, Check, Resume}
 use Rattle.rht_cli.proofs.ServedScripts.{never_rises}
-use Rattle.rht_cli.proofs.ToldInput.{script_bounded, deal_bounded, lease_bounded, claim_bounded, HasInput-script, IsFaultOf-script, HasInput-deal, IsFaultOf-deal, HasInput-leases, IsFaultOf-leases, HasInput-claim, IsFaultOf-claim, HasInput-gen, IsReadAs-told, IsAtFault-told}
+use Rattle.rht_cli.proofs.ToldInput.{script_bounded, deal_bounded, lease_bounded, resume_bounded, claim_bounded, HasInput-script, IsFaultOf-script, HasInput-deal, IsFaultOf-deal, HasInput-leases, IsFaultOf-leases, HasInput-resume, IsFaultOf-resume, HasInput-claim, IsFaultOf-claim, HasInput-gen, IsReadAs-told, IsAtFault-told}
 use Rattle.rht_cli.proofs.laws.complete.Goals as goal
 
 pub returns-clause-served : goal.returns-clause-served
@@ -49,6 +50,21 @@ returns-clause-unleased g c fault named first =
     let input = IsAtFault-told lease_reading_of lease_bounded c.args.bytes.items fault first in
     elim (c.run.ensures.refused Lease c.args.bytes.items input.0 fault named (ap Some c.new-source.ensures)
     (IsFaultOf-leases (Some c.args.bytes.items) input.0 fault input.1) never_rises) [
+      | inl two ↦ inl two.0
+      | inr memory ↦ inr memory
+    ]
+
+pub returns-clause-resumed : goal.returns-clause-resumed
+returns-clause-resumed g c said named says =
+    c.run.ensures.served Resume c.args.bytes.items (Some []) named (ap Some c.new-source.ensures)
+    (HasInput-resume (Some c.args.bytes.items) (Some []) said (IsReadAs-told resume_reading_of resume_bounded c.args.bytes.items said says))
+    never_rises never_rises
+
+pub returns-clause-unresumed : goal.returns-clause-unresumed
+returns-clause-unresumed g c fault named first =
+    let input = IsAtFault-told resume_reading_of resume_bounded c.args.bytes.items fault first in
+    elim (c.run.ensures.refused Resume c.args.bytes.items input.0 fault named (ap Some c.new-source.ensures)
+    (IsFaultOf-resume (Some c.args.bytes.items) input.0 fault input.1) never_rises) [
       | inl two ↦ inl two.0
       | inr memory ↦ inr memory
     ]

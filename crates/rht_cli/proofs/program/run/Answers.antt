@@ -3,12 +3,12 @@ use Rattle.std.specs.declared.string.String.{String}
 use Rattle.std.specs.declared.alloc.Global.{Global}
 use Rattle.rht_io.specs.Told.{PutsLine}
 use Rattle.rht_cli.specs.declared.form.Form.{Form}
-use Rattle.rht_cli.specs.declared.form.Form.TheVariants.{Run, Gen, Deal, Lease}
+use Rattle.rht_cli.specs.declared.form.Form.TheVariants.{Run, Gen, Deal, Lease, Resume}
 use Rattle.rht_cli.specs.Forms.{form_of, HasInput, IsFaultOf}
 use Rattle.rht_cli.specs.Endings.{Serves, status_of, ending_of, ending_line}
 use Rattle.rht_cli.proofs.Completeness.{served_whole, served_unread, refused_fault}
 use Rattle.rht_cli.proofs.Headlines.{Headline-served, IsFaultOf-served}
-use Rattle.rht_cli.proofs.PrintedTexts.{DealHeadline-served, LeaseHeadline-served}
+use Rattle.rht_cli.proofs.PrintedTexts.{DealHeadline-served, LeaseHeadline-served, ResumeHeadline-served}
 use Rattle.rht_cli.proofs.program.run.Goals as goal
 
 -- words are of one form
@@ -39,6 +39,14 @@ returns-in-Some-clause-leased g c zero named =
     let same = one_form c.args.words.now.items c.deref.result.now Lease c.in-Some.form
     c.deref.ensures.value (sym c.in-Some.is ∙ c.of.ensures) named in
     LeaseHeadline-served g.S.Source.left g.S.Source.faults g.O.Sink.held g.O.Sink.faults c.in-Some.form
+    c.args.source.now c.serve.new.source c.args.out.now c.serve.new.out c.serve.result c.serve.ensures.served
+    (sym (ap status_of c.ending_of.ensures) ∙ sym c.end.ensures.status ∙ zero) same
+
+pub returns-in-Some-clause-resumed : goal.returns-in-Some-clause-resumed
+returns-in-Some-clause-resumed g c zero named =
+    let same = one_form c.args.words.now.items c.deref.result.now Resume c.in-Some.form
+    c.deref.ensures.value (sym c.in-Some.is ∙ c.of.ensures) named in
+    ResumeHeadline-served g.S.Source.left g.S.Source.faults g.O.Sink.held g.O.Sink.faults c.in-Some.form
     c.args.source.now c.serve.new.source c.args.out.now c.serve.new.out c.serve.result c.serve.ensures.served
     (sym (ap status_of c.ending_of.ensures) ∙ sym c.end.ensures.status ∙ zero) same
 
