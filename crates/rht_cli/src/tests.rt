@@ -20,6 +20,7 @@ mod growth;
 mod hostile;
 mod leases;
 mod moves;
+mod resumes;
 mod walks;
 
 const USAGE: &str =
