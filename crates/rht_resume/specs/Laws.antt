@@ -14,7 +14,7 @@ use Rattle.rht_core.specs.declared.event.Event.{Event}
 use Rattle.rht_core.specs.RunHistories.{bindings_behind}
 use Rattle.rht_core.specs.Runs.{IsAdmitted}
 use Rattle.rht_core.specs.Seen.{words_before}
-use Rattle.rht_core.specs.Shown.{AreAmong, AreFewMade, ends_behind}
+use Rattle.rht_core.specs.Shown.{AreAmong, ends_behind}
 use Rattle.rht_core.specs.ToldHistories.{TellsOf}
 use Rattle.rht_core.specs.Traces.{Past, traced_of, behind_call}
 use Rattle.rht_resume.specs.declared.resume.Piece.{Piece}
@@ -147,10 +147,10 @@ module _ (M : Type 0) (mix : ℕ → ℕ → ℕ → ℕ) where
         → AllByRecursion (λ pair. (rest : List ℕ) × (bindings_behind M mix env events at pair.0 ≡ pair.1 ∷ rest)) pairs
     pub once : IsDistinct (map (λ pair. pair.0) pairs)
 
-  -- In every run a resumed walk over words that stay shows just what is bound, where few serials were taken.
+  -- In every run a resumed walk over words that stay shows just what is bound.
   abbrev pub ShowsAllOnce : Type 0
   ShowsAllOnce =
-      (env : Env) (events : List Event) (c : ℕ) (made : NextMade) (others : List NextMade) → IsAdmitted events → AreFewMade M mix env events
+      (env : Env) (events : List Event) (c : ℕ) (made : NextMade) (others : List NextMade) → IsAdmitted events
       → IsResumedWalk start (made ∷ others)
       → AreAmong (all_walks (made ∷ others)) ((traced_of {M = M} mix env events).traces c).past
       → IsStill env events (begins_at made) (ends_with made others)

@@ -142,3 +142,7 @@ unbegun nodes = record { spot = Some start; pairs = []; nodes = nodes }
 
 abbrev pub restarted : Walking → Walking
 restarted walking = record { spot = Some start; pairs = walking.pairs; nodes = walking.nodes }
+
+-- one that goes to its start where it has ended
+abbrev pub reopened : Walking → Walking
+reopened walking = record { spot = Some (begun walking.spot); pairs = walking.pairs; nodes = walking.nodes }

@@ -2,7 +2,7 @@
 //! is empty, and its clause is the law. What else is so of the run that they leave, is said of every run that
 //! serves commands (the laws of `rht_core`, and `HasRun` of `rht_run`).
 
-ghost use Rattle.rht_resume.specs.Laws.{CutsRightly, BeginsAnewByWalk, DecidesAnswers, ShowsBound, ShowsAllOnce, HistoryFits};
+ghost use Rattle.rht_resume.specs.Laws.{CutsRightly, BeginsAnewByWalk, DecidesAnswers, HistoryFits};
 
 use rht_policy::Mix;
 
@@ -19,17 +19,6 @@ pub fn begun_anew()
 /// How a worker's calls ended decides what its commands were answered.
 pub fn decided()
     ensures { DecidesAnswers }
-{}
-
-/// In every run each pair of a piece is a port and its first owner at a moment of that call.
-pub fn bound<M: Mix>()
-    ensures { ShowsBound M M.mix_of }
-{}
-
-/// In every run a resumed walk during which nothing is written shows each bound port once, with its first owner,
-/// and no other. Read sections may be opened and closed meanwhile.
-pub fn once<M: Mix>()
-    ensures { ShowsAllOnce M M.mix_of }
 {}
 
 /// A legal history fits the run that the workers leave.

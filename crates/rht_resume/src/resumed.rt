@@ -2,10 +2,10 @@
 //!
 //! Stands on `Table::walk` alone, which it calls with the limit 1. Read `specs/Pieces.antt` first.
 
-ghost use Rattle.std.specs.Prelude.{◌≡◌, ◌≢◌, ◌≤◌, ◌<◌, ◌+◌, ◌-◌, ◌↔◌, ◌++◌, [], None, Some, true, length, drop, IsTrue, IfOk, IfSome};
+ghost use Rattle.std.specs.Prelude.{◌≡◌, ◌≢◌, ◌≤◌, ◌<◌, ◌+◌, ◌-◌, ◌↔◌, ◌++◌, None, true, length, drop, IsTrue, IfOk};
 ghost use Rattle.rht_core.specs.Locals.{is_idle};
 ghost use Rattle.rht_run.specs.Passes.{IsPassOf};
-ghost use Rattle.rht_resume.specs.Pieces.{start, unbegun, restarted, taking, behind_answer};
+ghost use Rattle.rht_resume.specs.Pieces.{unbegun, restarted, begun, reopened, taking, behind_answer};
 ghost use Rattle.rht_resume.specs.ServedPieces.{HasResumed, HasTurned, IsTurned, IsAgainCaused};
 
 use crate::resume::Piece;
@@ -75,6 +75,13 @@ impl Resumed {
         ensures { self.new ≡ restarted self.old }
     {
         self.spot = Some(START);
+    }
+
+    /// Goes to the start where the walk has ended.
+    pub(crate) fn reopen(&mut self)
+        ensures { self.new ≡ reopened self.old }
+    {
+        self.spot = Some(begun(self.spot));
     }
 
     /// The pairs of the last piece, in the order in which they were seen: a port and its first owner each. Before
@@ -205,6 +212,16 @@ impl Resumed {
         for pair in more {
             self.pairs.push(*pair);
         }
+    }
+}
+
+/// Where the next piece begins, once a walk that has ended is restarted.
+fn begun(spot: Option<Spot>) -> Spot
+    ensures { result ≡ begun spot }
+{
+    match spot {
+        None => START,
+        Some(spot) => spot,
     }
 }
 

@@ -92,9 +92,7 @@ impl<M: Mix> Worker<M> {
         requires within { limit ≤ table.now.env.config.nodes }
         ensures { (auto : Bool) → OnOk result (HasDone M.mix_of table.now auto (Next limit) self.old self.new) }
     {
-        if self.resumed.is_ended() {
-            self.resumed.restart();
-        }
+        self.resumed.reopen();
         let piece = self.resumed.next(table, &mut self.pass, limit);
         self.replies.push_piece(piece, self.resumed.pairs())
     }
