@@ -14,3 +14,13 @@ pub mod ResumeReadings
 pub mod SoundScripts
 -- what stands at a place of answers and of workers
 pub mod AnswerLines
+-- what comes of a `next`, whatever its walks were answered
+pub mod PieceLaws
+-- the endings of a worker's calls, cut into those of its commands
+pub mod AnswerLemmas
+-- how a pass gets on by the calls that commands stand for
+pub mod ServedCommands
+-- a worker with one command more
+pub mod WorkedCommands
+-- what all workers leave is a run
+pub mod ResumeRuns

@@ -22,8 +22,8 @@ use Rattle.rht_resume.proofs.PieceLemmas.{IsUnderway, IsUnderway-none, IsUnderwa
 
 -- a walk that isn't ended is where a `next` begins
 pub begun-open : (spot : Option Spot) → spot ≢ None → spot ≡ Some (begun spot)
-begun-open None open = absurd (open refl)
-begun-open (Some spot) open = refl
+begun-open None some = absurd (some refl)
+begun-open (Some spot) some = refl
 
 -- A `next` that began at this spot has made so many walks and isn't over.
 pub record IsNextUnderway {M : Type 0} (mix : ℕ → ℕ → ℕ → ℕ) (t : Table M) (limit : ℕ) (first : Spot) (nodes : ℕ) (new : Walking)

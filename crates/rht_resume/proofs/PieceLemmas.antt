@@ -9,7 +9,7 @@ use Rattle.rht_model.specs.declared.history.Reply.TheVariants as replies
 use Rattle.rht_model.specs.Endings.{Ending, ended_with}
 use Rattle.rht_core.specs.Serving.{asks_for_work, AreBehind, AreForCommand, Serves}
 use Rattle.rht_resume.specs.declared.resumed.Spot.{Spot}
-use Rattle.rht_resume.specs.Pieces.{Outcome, Turn, On, Over, Never, turn_of, outcome_by, outcome_from, outcome_of, walk_at, walks_by, walks_from, walks_of, own_from, own_of, ended_each}
+use Rattle.rht_resume.specs.Pieces.{Outcome, Turn, On, Over, Never, turn_by, turn_of, outcome_by, outcome_from, outcome_of, walk_at, walks_by, walks_from, walks_of, own_from, own_of, ended_each}
 
 -- ---- one answer more
 
@@ -142,7 +142,7 @@ walk-answer auto limit spot pairs ending some = by_reply ending.answer.reply ref
         → AreForCommand auto (walk_at spot) ending (ended_with (walk_at spot) ending ∷ [])
     by_reply (replies.Walked len next) is = walk-served auto spot ending (λ none. absurd (cc)) (ap (asks_for_work (walk_at spot)) is)
     by_reply (replies.Again table) is = walk-served auto spot ending (λ none. absurd (cc)) (ap (asks_for_work (walk_at spot)) is)
-    by_reply _ is = absurd (some (rw is refl))
+    by_reply _ is = absurd (some (ap (λ r. turn_by limit spot pairs r ending.pairs) is))
 
 module _ (auto : Bool) (limit : ℕ) (outcome : Outcome) where
   serves-turn : (endings : List Ending)
