@@ -130,11 +130,7 @@ fn a_nested_table_is_walked_in_pieces(rt: HostRuntime) -> Result<(), Fail> {
     }
     text.push_str("1 bind 256 2\n1 bind 257 3\n1 next 1\n1 next 2\n1 next 2\n1 next 4096\n")?;
     let outcome = resumed(&rt, alloc, &text)?;
-    assert_same(
-        &rt,
-        (outcome.closed.size, outcome.closed.keys),
-        (256, 130),
-    );
+    assert_same(&rt, (outcome.closed.size, outcome.closed.keys), (256, 130));
     assert_same(&rt, outcome.replies.len(), 1);
     let answers = &outcome.replies[0];
     assert_same(&rt, answers.len(), 134);
