@@ -146,17 +146,20 @@ module _ {M : Type 0} (mix : ℕ → ℕ → ℕ → ℕ) (t : Table M) (limit :
         earlier : (p : Piece) → IsAgainCaused mix t p now after → IsAgainCaused mix t p old after
         earlier Part cause = tt
         earlier (End len) cause = tt
-        earlier (Again table) (from, cause) = (from, record {
-          events = cause.events;
-          admitted = cause.admitted;
-          shows = cause.shows;
-          at = cause.at;
-          behind = (let behind = cause.behind in let less = fewer in omega (arith, behind, less));
-          past = cause.past;
-          place = cause.place;
-          done = cause.done;
-          fact = cause.fact;
-        })
+        earlier (Again table) (from, cause) = (
+          from,
+          record {
+            events = cause.events;
+            admitted = cause.admitted;
+            shows = cause.shows;
+            at = cause.at;
+            behind = (let behind = cause.behind in let less = fewer in omega (arith, behind, less));
+            past = cause.past;
+            place = cause.place;
+            done = cause.done;
+            fact = cause.fact;
+          },
+        )
 
   -- it makes no more walks than a table has buckets
   pub IsNextUnderway-few : (new : Walking) (now : Pass M) → IsNextUnderway mix t limit first nodes new most_buckets old now → ⊥

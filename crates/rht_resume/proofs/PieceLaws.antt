@@ -94,11 +94,12 @@ module _ (limit table : ℕ) (outcome : Outcome) where
       → outcome_by turn endings (λ s p. outcome_from limit s p endings) ≡ Some outcome → IsAgainBy (ending ∷ endings)
   anew-turn ending endings others other (On spot pairs) walked is =
       let behind = others spot pairs is in
-      (λ again. inr (behind.0 again), λ any. elim any [ | inl here ↦ absurd (other here) | inr there ↦ behind.1 there ])
+      (λ again. inr (behind.0 again), λ any. elim any [ inl here ↦ absurd (other here) | inr there ↦ behind.1 there ])
   anew-turn ending [] others other (Over over) walked is =
-      let piece : over.piece ≡ outcome.piece = ap (λ (o : Outcome). o.piece) (some_in is) in
-      (λ again. absurd (subst IsWalked (piece ∙ again) walked),
-       λ any. elim any [ | inl here ↦ absurd (other here) | inr there ↦ absurd there ])
+      let piece : over.piece ≡ outcome.piece = ap (λ (o : Outcome). o.piece) (some_in is) in (
+        λ again. absurd (subst IsWalked (piece ∙ again) walked),
+        λ any. elim any [ inl here ↦ absurd (other here) | inr there ↦ absurd there ],
+      )
   anew-turn ending (next ∷ endings) others other (Over over) walked is = absurd (cc)
   anew-turn ending endings others other Never walked is = absurd (cc)
 
@@ -107,9 +108,10 @@ module _ (limit table : ℕ) (outcome : Outcome) where
       ≡ Some outcome
       → IsAgainBy (ending ∷ endings)
   anew-again ending [] named reply is =
-      let piece : Again named ≡ outcome.piece = ap (λ (o : Outcome). o.piece) (some_in is) in
-      (λ again. inl (reply ∙ (let same : named ≡ table = cc in ap (λ n. replies.Again n) same)),
-       λ any. elim any [ | inl here ↦ (let same : named ≡ table = cc in sym piece ∙ ap (λ n. Again n) same) | inr there ↦ absurd there ])
+      let piece : Again named ≡ outcome.piece = ap (λ (o : Outcome). o.piece) (some_in is) in (
+        λ again. inl (reply ∙ (let same : named ≡ table = cc in ap (λ n. replies.Again n) same)),
+        λ any. elim any [ inl here ↦ (let same : named ≡ table = cc in sym piece ∙ ap (λ n. Again n) same) | inr there ↦ absurd there ],
+      )
   anew-again ending (next ∷ endings) named reply is = absurd (cc)
 
   -- By induction over the answers.

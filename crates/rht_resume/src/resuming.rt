@@ -12,9 +12,9 @@ ghost use Rattle.rht_resume.specs.Resuming.{IsResumedBy};
 ghost use Rattle.rht_resume.specs.Scripts.{IsSoundResume};
 ghost use Rattle.rht_resume.specs.ServedPieces.{CanResume, HasDoneAll, HaveDone, HaveDoneAll, side_by_side};
 
-use crate::resume::ResumeScript;
 use crate::outcome::ResumeOutcome;
 use crate::replies::ResumeReplies;
+use crate::resume::ResumeScript;
 use crate::worker::Worker;
 use rht_io::Gate;
 use rht_policy::Mix;

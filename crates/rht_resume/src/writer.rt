@@ -29,10 +29,7 @@ pub fn write_resumed<O: Sink>(out: &mut O, outcome: &ResumeOutcome) -> Result<()
 }
 
 /// Adds the answers of each worker in turn.
-fn add_workers<O: Sink>(
-    text: &mut Writer<'_, O>,
-    workers: &[ResumeReplies],
-) -> Result<(), Failed>
+fn add_workers<O: Sink>(text: &mut Writer<'_, O>, workers: &[ResumeReplies]) -> Result<(), Failed>
     ensures text { Adds O.held O.faults text.old.out.now text.new.out.now result
         text.old.waiting text.new.waiting (flat_map worker_text (enumerate_from 1 workers.now)) }
     ensures same_sink { text.new.out.ghost_name ≡ text.old.out.ghost_name }
