@@ -1,6 +1,6 @@
 -- A `next` makes one walk after another. Each but the first begins at a later bucket than the one before, so before the walk with this number
 -- there are as many buckets or more; and as a table has no more than so many, the `next` is over by then.
-use Rattle.std.proofs.Common.{◌≡◌, ◌≢◌, ℕ, ◌+◌, ◌<◌, ◌≤◌, Option, Some, None, List, [], ◌∷◌, ◌++◌, length, refl, sym, ◌∙◌, ap, subst, arith}
+use Rattle.std.proofs.Common.{true, ◌≡◌, ◌≢◌, ℕ, ◌+◌, ◌<◌, ◌≤◌, Option, Some, None, List, [], ◌∷◌, ◌++◌, length, refl, sym, ◌∙◌, ap, subst, arith}
 use Rattle.std.specs.Prelude.{IfSome, MatchOption}
 use Rattle.std.proofs.lemmas.List.{append-nil, length_push, length-append}
 use Rattle.rht_walk.specs.WalkLaws.{first_bucket}

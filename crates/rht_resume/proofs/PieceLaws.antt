@@ -118,22 +118,22 @@ module _ (limit table : ℕ) (outcome : Outcome) where
   anew-from : (spot : Spot) (pairs : List (ℕ × ℕ)) (endings : List Ending) → outcome_from limit spot pairs endings ≡ Some outcome
       → IsAgainBy endings
   anew-from spot pairs [] is = absurd (cc)
-  anew-from spot pairs (ending ∷ endings) is = by_reply ending.answer.reply refl
+  anew-from spot pairs (ending ∷ endings) is = by_reply (λ s p. anew-from s p endings) ending.answer.reply refl
     where
-      by_reply : (reply : Reply) → ending.answer.reply ≡ reply → IsAgainBy (ending ∷ endings)
-      by_reply (replies.Walked len next) reply =
+      by_reply : ((s : Spot) (p : List (ℕ × ℕ)) → outcome_from limit s p endings ≡ Some outcome → IsAgainBy endings) → (reply : Reply) → ending.answer.reply ≡ reply → IsAgainBy (ending ∷ endings)
+      by_reply others (replies.Walked len next) reply =
           let turn_is : turn_of limit spot pairs ending ≡ taking limit spot pairs (limit - length pairs) (drop spot.shown ending.pairs) next =
           ap (λ r. turn_by limit spot pairs r ending.pairs) reply in
-          anew-turn ending endings (λ s p. anew-from s p endings) (λ again. absurd (cc))
+          anew-turn ending endings others (λ again. absurd (cc))
           (taking limit spot pairs (limit - length pairs) (drop spot.shown ending.pairs) next)
           (over-taking limit spot pairs (limit - length pairs) (drop spot.shown ending.pairs) next)
           (ap (λ t. outcome_by t endings (λ s p. outcome_from limit s p endings)) (sym turn_is) ∙ is)
-      by_reply (replies.Again named) reply =
+      by_reply others (replies.Again named) reply =
           let turn_is : turn_of limit spot pairs ending ≡ Over (record { piece = Again named; spot = Some start; pairs = [] }) =
           ap (λ r. turn_by limit spot pairs r ending.pairs) reply in
           anew-again ending endings named reply
           (ap (λ t. outcome_by t endings (λ s p. outcome_from limit s p endings)) (sym turn_is) ∙ is)
-      by_reply _ reply =
+      by_reply others _ reply =
           let turn_is : turn_of limit spot pairs ending ≡ Never = ap (λ r. turn_by limit spot pairs r ending.pairs) reply in
           let never = ap (λ t. outcome_by t endings (λ s p. outcome_from limit s p endings)) (sym turn_is) ∙ is in
           absurd (cc)
