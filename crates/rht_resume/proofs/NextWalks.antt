@@ -52,7 +52,7 @@ module _ {M : Type 0} (mix : ℕ → ℕ → ℕ → ℕ) (t : Table M) (limit :
     same_nodes = same_nodes;
     room = (let empty = ap length none in omega (arith, empty));
     endings = [];
-    underway = subst (IsUnderway limit first [] first) (sym none) (IsUnderway-none limit first);
+    underway = IsUnderway-none limit first new.pairs none;
     many = refl;
     low = omega arith;
     high = λ some. absurd (omega (arith, some));
@@ -66,6 +66,15 @@ module _ {M : Type 0} (mix : ℕ → ℕ → ℕ → ℕ) (t : Table M) (limit :
     abbrev spot : Spot
     spot = so_far.spot
 
+    some_in : {one other : Spot} → Some one ≡ Some other → one ≡ other
+    some_in {one} {other} same = cc
+
+    -- it was made from where the walk stands
+    from_here : (here : Spot) (piece : Option Piece) → walking.spot ≡ Some here → HasTurned mix t limit here walking new piece now after
+        → HasTurned mix t limit spot walking new piece now after
+    from_here here piece is turned =
+        subst (λ s. HasTurned mix t limit s walking new piece now after) (some_in (sym is ∙ so_far.stands)) turned
+
     -- the same pass as at first
     same_pass : (piece : Option Piece) → HasTurned mix t limit spot walking new piece now after → IsSamePass old after
     same_pass piece turned = record {
@@ -74,12 +83,13 @@ module _ {M : Type 0} (mix : ℕ → ℕ → ℕ → ℕ) (t : Table M) (limit :
     }
 
     -- and then it has made one more
-    pub IsNextUnderway-more : HasTurned mix t limit spot walking new None now after
+    pub IsNextUnderway-more : (here : Spot) → walking.spot ≡ Some here → HasTurned mix t limit here walking new None now after
         → IsNextUnderway mix t limit first nodes new (count + 1) old after
-    IsNextUnderway-more turned =
+    IsNextUnderway-more here is made =
+        let turned = from_here here None is made in
         let later = turned.rises refl in
         let goes = turned.turned.made in
-        let before_next : goes.spot ≡ before later.cursor = spot_in (sym goes.stands ∙ later.stands) in
+        let before_next : goes.spot ≡ before later.cursor = some_in (sym goes.stands ∙ later.stands) in
         let bucket : first_bucket goes.spot.cursor ≡ later.cursor.bucket = ap (λ (s : Spot). first_bucket s.cursor) before_next in
         let low = so_far.low in
         let rising = later.later in
@@ -103,15 +113,13 @@ module _ {M : Type 0} (mix : ℕ → ℕ → ℕ → ℕ) (t : Table M) (limit :
               turned.finished ∙ ap (λ l. l ++ ended_with (walk_at spot) turned.ending ∷ []) so_far.finished
               ∙ ended_each-calls limit first so_far.endings spot walking.pairs turned.ending so_far.underway (book_of old).finished;
         }
-      where
-        spot_in : {one other : Spot} → Some one ≡ Some other → one ≡ other
-        spot_in {one} {other} same = cc
 
     -- or this one has ended it
     pub HasResumed-over : (start_of : Walking) (piece : Piece) → first ≡ begun start_of.spot → start_of.nodes ≡ nodes → count < most_buckets
-        → HasTurned mix t limit spot walking new (Some piece) now after
+        → (stood : Spot) → walking.spot ≡ Some stood → HasTurned mix t limit stood walking new (Some piece) now after
         → HasResumed mix t limit start_of new piece old after
-    HasResumed-over start_of piece here same_nodes few turned =
+    HasResumed-over start_of piece here same_nodes few stood is made =
+        let turned = from_here stood (Some piece) is made in
         let over = turned.turned.made in
         let endings = so_far.endings ++ turned.ending ∷ [] in
         let many = so_far.many in

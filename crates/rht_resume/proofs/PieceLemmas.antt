@@ -20,8 +20,13 @@ pub record IsUnderway (limit : ℕ) (first : Spot) (endings : List Ending) (spot
   pub outcome : (more : List Ending) → outcome_of limit first (endings ++ more) ≡ outcome_from limit spot pairs more
   pub walks : (more : List Ending) → walks_of limit first (endings ++ more) ≡ calls ++ walks_from limit spot pairs more
 
-pub IsUnderway-none : (limit : ℕ) (spot : Spot) → IsUnderway limit spot [] spot []
-IsUnderway-none limit spot = record { calls = []; many = refl; outcome = λ more. refl; walks = λ more. refl }
+abbrev pub IsUnderway-none : (limit : ℕ) (spot : Spot) (pairs : List (ℕ × ℕ)) → pairs ≡ [] → IsUnderway limit spot [] spot pairs
+IsUnderway-none limit spot pairs none = record {
+  calls = [];
+  many = refl;
+  outcome = λ more. ap (λ p. outcome_from limit spot p more) (sym none);
+  walks = λ more. ap (λ p. walks_from limit spot p more) (sym none);
+}
 
 -- calls that have ended, with one more
 pub ended_each-push : (calls : List Call) (endings : List Ending) (call : Call) (ending : Ending) → length calls ≡ length endings
@@ -41,7 +46,7 @@ module _ (limit : ℕ) (first : Spot) (endings : List Ending) (spot : Spot) (pai
   longer = endings ++ ending ∷ []
 
   -- the answer leads on
-  pub IsUnderway-more : (later : Spot) (more_pairs : List (ℕ × ℕ)) → turn ≡ On later more_pairs
+  abbrev pub IsUnderway-more : (later : Spot) (more_pairs : List (ℕ × ℕ)) → turn ≡ On later more_pairs
       → IsUnderway limit first longer later more_pairs
   IsUnderway-more later more_pairs on = record {
     calls = underway.calls ++ walk_at spot ∷ [];
