@@ -1,14 +1,13 @@
 -- The endings of a worker's calls, cut into those of its commands: the endings that belong to a command are told by themselves, whatever stands
 -- behind them. So a command more has its endings behind those of the others, and how the calls ended decides the answers.
-use Rattle.std.proofs.Common.{◌≡◌, ℕ, ◌==◌, Bool, true, false, cond, Option, Some, None, List, [], ◌∷◌, ◌++◌, length, take, drop, refl, sym, ◌∙◌, ap, subst, append_assoc, arith}
+use Rattle.std.proofs.Common.{◌≡◌, ℕ, ◌==◌, Bool, true, false, cond, Option, Some, None, List, [], ◌∷◌, ◌++◌, length, take, drop, refl, sym, ◌∙◌, ap, subst, append_assoc}
 use Rattle.std.proofs.lemmas.List.{append-nil}
-use Rattle.rht_model.specs.declared.history.Call.{Call}
 use Rattle.rht_model.specs.Endings.{Ending}
 use Rattle.rht_resume.specs.declared.resume.ResumeCall.{ResumeCall}
 use Rattle.rht_resume.specs.declared.resume.ResumeCall.TheVariants as asks
 use Rattle.rht_resume.specs.declared.resumed.Spot.{Spot}
 use Rattle.rht_resume.specs.Answers.{Answer, only_answer, answer_by, answer_of, calls_for, spot_after, own_endings, endings_behind, calls_in_turn, spot_left, AreAnswered, commands_of}
-use Rattle.rht_resume.specs.Pieces.{Outcome, begun, outcome_of, own_of}
+use Rattle.rht_resume.specs.Pieces.{Outcome, begun, outcome_of}
 use Rattle.rht_resume.proofs.PieceLemmas.{own_from-over, own_from-first}
 
 -- ---- the endings of one command

@@ -1,5 +1,5 @@
 -- An answer more changes none that is kept: a place that names one of the replies to calls, or of the pieces, names the same one afterwards.
-use Rattle.std.proofs.Common.{◌≡◌, ℕ, ◌<◌, Some, List, [], ◌∷◌, ◌++◌, length, map, slice_get, refl, sym, ◌∙◌, ap, arith, inl, inr}
+use Rattle.std.proofs.Common.{◌≡◌, ℕ, ◌<◌, List, [], ◌∷◌, ◌++◌, length, map, slice_get, refl, sym, ◌∙◌, ap, arith, inl, inr}
 use Rattle.std.proofs.lemmas.List.{length_push, map_push}
 use Rattle.std.proofs.lemmas.Option.{slice_get_cases}
 use Rattle.std.specs.List.{AllByRecursion}
@@ -8,7 +8,7 @@ use Rattle.rht_model.specs.Endings.{Ending}
 use Rattle.rht_resume.specs.declared.replies.Kept.{Kept}
 use Rattle.rht_resume.specs.declared.replies.Kept.TheVariants.{Plain, Next}
 use Rattle.rht_resume.specs.declared.replies.Shown.{Shown}
-use Rattle.rht_resume.specs.Answers.{Answer, plain_answer}
+use Rattle.rht_resume.specs.Answers.{plain_answer}
 use Rattle.rht_resume.specs.KeptAnswers.{plain_at, piece_at, shown_answer, answer_kept, IsKept}
 
 -- what stands at the places of a list stands there in another one

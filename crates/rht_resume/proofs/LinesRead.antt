@@ -1,5 +1,5 @@
 -- What the calls that read a line answer, in the words of the definitions.
-use Rattle.std.proofs.Common.{◌≡◌, ℕ, Bool, true, false, Result, Ok, Err, List, refl, ap}
+use Rattle.std.proofs.Common.{◌≡◌, ℕ, true, false, Result, Ok, Err, List, refl, ap}
 use Rattle.rht_script.specs.declared.script.TableLine.{TableLine}
 use Rattle.rht_script.specs.declared.script.ScriptFault.{ScriptFault}
 use Rattle.rht_script.specs.declared.cause.Cause.{Cause}

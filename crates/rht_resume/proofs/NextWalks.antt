@@ -1,23 +1,18 @@
 -- A `next` makes one walk after another. Each but the first begins at a later bucket than the one before, so before the walk with this number
 -- there are as many buckets or more; and as a table has no more than so many, the `next` is over by then.
 use Rattle.std.proofs.Common.{true, ◌≡◌, ◌≢◌, ℕ, ◌+◌, ◌<◌, ◌≤◌, Option, Some, None, List, [], ◌∷◌, ◌++◌, length, refl, sym, ◌∙◌, ap, subst, arith}
-use Rattle.std.specs.Prelude.{IfSome, MatchOption}
 use Rattle.std.proofs.lemmas.List.{append-nil, length_push, length-append}
 use Rattle.rht_walk.specs.WalkLaws.{first_bucket}
-use Rattle.rht_model.specs.declared.history.Call.TheVariants.{Walk}
-use Rattle.rht_model.specs.declared.history.Cursor.{Cursor}
-use Rattle.rht_model.specs.declared.history.Reply.TheVariants as replies
 use Rattle.rht_model.specs.Endings.{Ending, ended_with}
 use Rattle.rht_core.specs.Locals.{is_idle}
 use Rattle.rht_run.specs.declared.pass.Pass.{Pass}
 use Rattle.rht_run.specs.declared.table.Table.{Table}
-use Rattle.rht_run.specs.Caused.{IsCaused}
 use Rattle.rht_run.specs.Passes.{IsPassOf, IsSamePass, book_of}
 use Rattle.rht_resume.specs.declared.resume.Piece.{Piece}
 use Rattle.rht_resume.specs.declared.resume.Piece.TheVariants.{Part, End, Again}
 use Rattle.rht_resume.specs.declared.resumed.Spot.{Spot}
-use Rattle.rht_resume.specs.Pieces.{Walking, Outcome, Turn, On, Over, start, begun, before, turn_of, outcome_of, walks_of, walk_at, ended_each}
-use Rattle.rht_resume.specs.ServedPieces.{most_buckets, IsAgainCaused, outcome_with, IsTurned, IsLater, HasTurned, HasResumed}
+use Rattle.rht_resume.specs.Pieces.{Walking, begun, before, outcome_of, walks_of, walk_at, ended_each}
+use Rattle.rht_resume.specs.ServedPieces.{most_buckets, IsAgainCaused, outcome_with, HasTurned, HasResumed}
 use Rattle.rht_resume.proofs.PieceLemmas.{IsUnderway, IsUnderway-none, IsUnderway-more, over-outcome, over-walks, ended_each-calls}
 
 -- a walk that isn't ended is where a `next` begins

@@ -1,14 +1,13 @@
 -- What comes of a `next` whatever its walks were answered: a piece of the size that was wanted or the last one; or that the walk has to begin
 -- anew, exactly where one of the walks was answered so.
-use Rattle.std.proofs.Common.{◌≡◌, ◌≢◌, ℕ, ◌+◌, ◌-◌, ◌<◌, ◌≤◌, ◌==◌, nat_lt, Bool, true, false, if◌then◌else◌, Option, Some, None, List, [], ◌∷◌, ◌++◌, length, take, drop, refl, sym, ◌∙◌, ap, subst, inl, inr, arith}
+use Rattle.std.proofs.Common.{◌≡◌, ℕ, ◌-◌, ◌≤◌, ◌==◌, nat_lt, Bool, true, false, if◌then◌else◌, Option, Some, None, List, [], ◌∷◌, ◌++◌, length, take, drop, refl, sym, ◌∙◌, ap, subst, inl, inr, arith}
 use Rattle.std.proofs.lemmas.Bool.{ltb-true, ltb-false, eqb-true}
 use Rattle.std.proofs.lemmas.List.{length-append, length-take-le}
 use Rattle.rht_model.specs.declared.history.Cursor.{Cursor}
 use Rattle.rht_model.specs.declared.history.Reply.{Reply}
 use Rattle.rht_model.specs.declared.history.Reply.TheVariants as replies
 use Rattle.rht_model.specs.Endings.{Ending}
-use Rattle.rht_resume.specs.declared.resume.Piece.{Piece}
-use Rattle.rht_resume.specs.declared.resume.Piece.TheVariants.{Part, End, Again}
+use Rattle.rht_resume.specs.declared.resume.Piece.TheVariants.{Part, Again}
 use Rattle.rht_resume.specs.declared.resumed.Spot.{Spot}
 use Rattle.rht_resume.specs.Pieces.{Outcome, Turn, On, Over, Never, start, before, behind_answer, taking, turn_by, turn_of, outcome_by, outcome_from}
 use Rattle.rht_resume.specs.Laws.{IsPieceOf, CutsRightly, AnswersAgain, BeginsAnewByWalk}

@@ -1,15 +1,14 @@
 -- The answers of a `next`, one after another: which of them belong to it, which calls they answer, and what each further one makes of it.
-use Rattle.std.proofs.Common.{◌≡◌, ◌≢◌, ℕ, suc, ◌+◌, Bool, true, false, ◌&&◌, Option, Some, None, List, [], ◌∷◌, ◌++◌, length, drop, refl, sym, ◌∙◌, ap, subst, append_assoc, arith}
-use Rattle.std.proofs.lemmas.List.{append-nil, length_push}
+use Rattle.std.proofs.Common.{◌≡◌, ◌≢◌, ℕ, Bool, true, false, ◌&&◌, Some, None, List, [], ◌∷◌, ◌++◌, length, drop, refl, sym, ◌∙◌, ap, subst, append_assoc, arith}
+use Rattle.std.proofs.lemmas.List.{length_push}
 use Rattle.rht_model.specs.declared.finished.Finished.{Finished}
 use Rattle.rht_model.specs.declared.history.Call.{Call}
-use Rattle.rht_model.specs.declared.history.Cursor.{Cursor}
 use Rattle.rht_model.specs.declared.history.Reply.{Reply}
 use Rattle.rht_model.specs.declared.history.Reply.TheVariants as replies
 use Rattle.rht_model.specs.Endings.{Ending, ended_with}
 use Rattle.rht_core.specs.Serving.{asks_for_work, AreBehind, AreForCommand, Serves}
 use Rattle.rht_resume.specs.declared.resumed.Spot.{Spot}
-use Rattle.rht_resume.specs.Pieces.{Outcome, Turn, On, Over, Never, turn_by, turn_of, outcome_by, outcome_from, outcome_of, walk_at, walks_by, walks_from, walks_of, own_from, own_of, ended_each}
+use Rattle.rht_resume.specs.Pieces.{Outcome, Turn, On, Over, Never, turn_by, turn_of, outcome_by, outcome_from, outcome_of, walk_at, walks_by, walks_from, walks_of, own_from, ended_each}
 
 -- ---- one answer more
 

@@ -1,5 +1,5 @@
 -- The parts of a resume script, read one after another: what one reading gives goes on to the next, and the first fault ends it.
-use Rattle.std.proofs.Common.{◌≡◌, ℕ, ◌+◌, ◌<◌, ◌≤◌, ◌==◌, ◌++◌, Result, Ok, Err, List, length, take, refl, ap}
+use Rattle.std.proofs.Common.{◌≡◌, ℕ, ◌+◌, ◌<◌, ◌≤◌, ◌==◌, ◌++◌, Result, Ok, Err, List, length, take, ap}
 use Rattle.std.specs.Prelude.{count_by}
 use Rattle.rht_script.specs.declared.script.TableLine.{TableLine}
 use Rattle.rht_script.specs.declared.script.ScriptFault.{ScriptFault}

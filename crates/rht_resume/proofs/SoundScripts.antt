@@ -1,6 +1,6 @@
 -- A resume script that is read can be run: its config is settled, each command is one of the workers' and is such as resume scripts have, and
 -- there are no more commands than lines.
-use Rattle.std.proofs.Common.{◌≡◌, ℕ, zero, suc, get_or, ◌+◌, ◌<◌, ◌≤◌, ◌&&◌, nat_lt, nat_le, if◌then◌else◌, Bool, true, false, cond, Result, Ok, Err, List, [], ◌∷◌, length, map, codes, eq-eqb, refl, sym, ◌∙◌, ap, subst, arith}
+use Rattle.std.proofs.Common.{◌≡◌, ℕ, zero, suc, get_or, ◌+◌, ◌<◌, ◌≤◌, ◌&&◌, nat_lt, nat_le, Bool, true, cond, Result, Ok, Err, List, [], ◌∷◌, length, map, eq-eqb, refl, sym, ◌∙◌, ap, subst, arith}
 use Rattle.std.specs.Prelude.{IfOk}
 use Rattle.std.specs.List.{AllByRecursion, list_all}
 use Rattle.std.proofs.lemmas.Bool.{and_parts, leb-true}
@@ -15,15 +15,14 @@ use Rattle.rht_script.specs.declared.script.TableLine.{TableLine}
 use Rattle.rht_script.specs.declared.script.ScriptFault.{ScriptFault}
 use Rattle.rht_script.specs.declared.cause.Cause.{Cause}
 use Rattle.rht_script.specs.declared.cause.Cause.TheVariants.{UnknownWord}
-use Rattle.rht_script.specs.Spelling.{◌>>=◌, between, is_word, is_within, number_of, lines_of, is_skipped}
+use Rattle.rht_script.specs.Spelling.{is_within, number_of, lines_of, is_skipped}
 use Rattle.rht_script.specs.TableLines.{table_of}
-use Rattle.rht_script.specs.CommandLines.{owner_limits, worker_limits, number_first, port_first, end_of, command_of}
+use Rattle.rht_script.specs.CommandLines.{worker_limits, number_first, end_of, command_of}
 use Rattle.rht_script.specs.Grammar.{most_bytes, most_lines, at_line, words_at, coded}
 use Rattle.rht_script.specs.Sound.{is_sound_command as is_sound_in, is_sound_call, has_sound_numbers}
 use Rattle.rht_script.proofs.ReadLines.{IfOk-then, IfOk-after, IfOk-cond, IfOk-at_line, number_within, words_few}
 use Rattle.rht_script.proofs.SayableScripts.{IsSettledTable, HasForm, table_settled, table_form, command_sound}
 use Rattle.rht_resume.specs.declared.resume.ResumeCall.{ResumeCall}
-use Rattle.rht_resume.specs.declared.resume.ResumeCall.TheVariants as asks
 use Rattle.rht_resume.specs.declared.resume.ResumeScript.{ResumeScript}
 use Rattle.rht_resume.specs.Answers.{commands_of}
 use Rattle.rht_resume.specs.Scripts.{limits_of_pieces, is_sound_ask, is_sound_command, IsSoundResume}

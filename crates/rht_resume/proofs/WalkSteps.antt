@@ -1,29 +1,26 @@
 -- One walk of a `next`: its answer is one that a walk may have, and what comes of it is said by the rules. Where it leads on to another walk,
 -- that begins at a later bucket: by its cause a walk that ended with a cursor has walked the bucket at which it began.
-use Rattle.std.proofs.Common.{◌≡◌, ◌≢◌, ℕ, ◌+◌, ◌-◌, ◌<◌, ◌≤◌, ◌==◌, nat_lt, Bool, true, false, if◌then◌else◌, Option, Some, None, List, [], ◌∷◌, ◌++◌, length, drop, take, refl, sym, ◌∙◌, ap, subst, inl, inr, arith}
+use Rattle.std.proofs.Common.{◌≡◌, ℕ, ◌+◌, ◌-◌, ◌<◌, ◌≤◌, ◌==◌, nat_lt, Bool, true, false, if◌then◌else◌, Option, Some, None, List, [], ◌++◌, length, drop, take, refl, sym, ◌∙◌, ap, subst, inl, inr, arith}
 use Rattle.std.specs.Prelude.{IfSome, MatchOption}
 use Rattle.std.proofs.lemmas.Bool.{ltb-false}
 use Rattle.std.proofs.lemmas.List.{length-append}
-use Rattle.rht_words.specs.declared.env.Env.{Env}
-use Rattle.rht_words.specs.Shapes.{unpacked, size_of}
+use Rattle.rht_words.specs.Shapes.{unpacked}
 use Rattle.rht_words.proofs.ShapeSizes.{IsSizeUpTo-size_of}
 use Rattle.rht_walk.specs.WalkLaws.{first_bucket}
 use Rattle.rht_model.specs.declared.finished.Finished.{Finished}
 use Rattle.rht_model.specs.declared.history.Call.TheVariants.{Walk}
 use Rattle.rht_model.specs.declared.history.Cursor.{Cursor}
-use Rattle.rht_model.specs.declared.history.Reply.{Reply}
 use Rattle.rht_model.specs.declared.history.Reply.TheVariants as replies
-use Rattle.rht_model.specs.Endings.{Ending, ended_with, replied}
+use Rattle.rht_model.specs.Endings.{replied}
 use Rattle.rht_core.specs.Causes.{CauseOf}
-use Rattle.rht_core.specs.Locals.{is_idle}
 use Rattle.rht_run.specs.declared.pass.Pass.{Pass}
 use Rattle.rht_run.specs.declared.table.Table.{Table}
 use Rattle.rht_run.specs.Caused.{IsCaused}
-use Rattle.rht_run.specs.Passes.{IsPassOf, IsSamePass, HasCalled, book_of}
+use Rattle.rht_run.specs.Passes.{HasCalled}
 use Rattle.rht_resume.specs.declared.resume.Piece.{Piece}
 use Rattle.rht_resume.specs.declared.resume.Piece.TheVariants.{Part, End, Again}
 use Rattle.rht_resume.specs.declared.resumed.Spot.{Spot}
-use Rattle.rht_resume.specs.Pieces.{Walking, Outcome, Turn, On, Over, Never, start, before, behind_answer, taking, turn_of, turn_by, walk_at}
+use Rattle.rht_resume.specs.Pieces.{Walking, Outcome, Turn, On, Over, Never, start, before, behind_answer, taking}
 use Rattle.rht_resume.specs.ServedPieces.{most_buckets, IsAgainCaused, outcome_with, GoesOn, IsTurned, IsLater, HasTurned}
 
 -- ---- what taking pairs may make of a `next`

@@ -1,10 +1,10 @@
 -- A worker that does a command more: its answer, where its walk is, and the calls that it has served are those of all its commands.
-use Rattle.std.proofs.Common.{◌≡◌, ℕ, ◌+◌, ◌<◌, ◌==◌, Bool, true, Option, Some, None, List, [], ◌∷◌, ◌++◌, length, take, get_or, eq-eqb, refl, sym, ◌∙◌, ap, subst, arith}
+use Rattle.std.proofs.Common.{◌≡◌, ℕ, ◌+◌, ◌<◌, Bool, Some, List, [], ◌∷◌, ◌++◌, length, take, get_or, eq-eqb, refl, sym, ◌∙◌, ap, subst}
 use Rattle.std.proofs.lemmas.Bool.{ne_eqb}
 use Rattle.std.proofs.lemmas.List.{take_more}
 use Rattle.rht_model.specs.declared.history.Call.{Call}
 use Rattle.rht_model.specs.declared.history.Reply.{Reply}
-use Rattle.rht_model.specs.Endings.{Ending, replied}
+use Rattle.rht_model.specs.Endings.{replied}
 use Rattle.rht_run.specs.declared.pass.Pass.{Pass}
 use Rattle.rht_run.specs.declared.table.Table.{Table}
 use Rattle.rht_run.specs.Served.{HasServed}
@@ -14,9 +14,8 @@ use Rattle.rht_run.proofs.ServedWorkers.{HasServedCalls-new}
 use Rattle.rht_resume.specs.declared.resume.Piece.{Piece}
 use Rattle.rht_resume.specs.declared.resume.ResumeCall.{ResumeCall}
 use Rattle.rht_resume.specs.declared.resume.ResumeCall.TheVariants as asks
-use Rattle.rht_resume.specs.declared.resumed.Spot.{Spot}
 use Rattle.rht_resume.specs.declared.worker.Worker.{Worker}
-use Rattle.rht_resume.specs.Answers.{Answer, plain_answer, next_answer, answer_by, answer_of, calls_for, spot_after, AreAnswered, calls_in_turn, spot_left, commands_of}
+use Rattle.rht_resume.specs.Answers.{plain_answer, next_answer, answer_by, answer_of, calls_for, spot_after, AreAnswered, calls_in_turn, spot_left, commands_of}
 use Rattle.rht_resume.specs.Pieces.{Walking, start, begun, unbegun, spot_by, outcome_of}
 use Rattle.rht_resume.specs.ServedPieces.{HasResumed, HasServedEach, HasDone, IsWorking, outcome_with}
 use Rattle.rht_resume.proofs.AnswerLemmas.{push-answered, commands_of-own, commands_of-other}

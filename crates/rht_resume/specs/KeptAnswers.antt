@@ -1,5 +1,5 @@
 -- How `ResumeReplies` keeps an answer: the replies to calls apart, and the pieces by themselves.
-use Rattle.std.specs.Prelude.{ℕ, ◌<◌, List, [], Option, None, Some, length, slice_get}
+use Rattle.std.specs.Prelude.{◌<◌, List, [], Option, None, Some, length, slice_get}
 use Rattle.rht_model.specs.Endings.{Ending}
 use Rattle.rht_resume.specs.declared.resume.Piece.TheVariants.{Part}
 use Rattle.rht_resume.specs.declared.resume.ResumeReply.TheVariants as answers

@@ -1,10 +1,10 @@
 -- The text of what a resume script leaves: the answers to the commands of each worker, the first worker's before the second's, and then what is
 -- bound at the end. Every line ends with a line feed.
-use Rattle.std.specs.Prelude.{ℕ, false, List, [], ◌++◌, codes, decimal}
+use Rattle.std.specs.Prelude.{ℕ, false, List, ◌++◌, codes, decimal}
 use Rattle.std.specs.List.{flat_map, enumerate_from}
 use Rattle.rht_model.specs.declared.bindings.Closed.{Closed}
 use Rattle.rht_model.specs.Multimap.{Port}
-use Rattle.rht_script.specs.Text.{spaced, named, pair_text, reply_text, closed_text}
+use Rattle.rht_script.specs.Text.{named, pair_text, reply_text, closed_text}
 use Rattle.rht_resume.specs.declared.resume.Piece.{Piece}
 use Rattle.rht_resume.specs.declared.resume.Piece.TheVariants.{Part, End, Again}
 use Rattle.rht_resume.specs.declared.resume.ResumeReply.{ResumeReply}

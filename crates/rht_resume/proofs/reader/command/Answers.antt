@@ -1,4 +1,4 @@
-use Rattle.std.proofs.Common.{◌≡◌, ℕ, Ok, Err, sym, ◌∙◌, ap}
+use Rattle.std.proofs.Common.{ℕ, Ok, sym, ◌∙◌, ap}
 use Rattle.std.proofs.lemmas.Result.{err_from_is_err_and}
 use Rattle.rht_script.specs.Spelling.{words_of}
 use Rattle.rht_script.specs.CommandLines.{command_of}

@@ -1,6 +1,4 @@
 use Rattle.std.proofs.Common.{subst}
-use Rattle.rht_run.specs.Passes.{IsClosedWith}
-use Rattle.rht_policy.specs.Mix.{mix_named}
 use Rattle.rht_core.specs.Serving.{IsServedRun}
 use Rattle.rht_run.proofs.ServedWorkers.{HaveServedAll-passes, IsServedRun-closed}
 use Rattle.rht_resume.specs.Answers.{all_calls}

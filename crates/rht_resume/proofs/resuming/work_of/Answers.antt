@@ -1,4 +1,4 @@
-use Rattle.std.proofs.Common.{◌≡◌, ℕ, true, ◌+◌, ◌<◌, ◌≤◌, length, take, get_or, sym, ◌∙◌, ap, subst, arith}
+use Rattle.std.proofs.Common.{◌≡◌, ℕ, true, ◌+◌, ◌<◌, length, take, get_or, sym, ◌∙◌, ap, subst, arith}
 use Rattle.rht_words.specs.declared.config.Config.{Config}
 use Rattle.rht_run.proofs.ServedWorkers.{new-below}
 use Rattle.rht_resume.specs.declared.resume.ResumeCall.{ResumeCall}

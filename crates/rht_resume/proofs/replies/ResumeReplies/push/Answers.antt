@@ -1,5 +1,4 @@
-use Rattle.std.proofs.Common.{◌≡◌, [], ◌∷◌, ◌++◌, length, rules, sym, ◌∙◌}
-use Rattle.rht_model.specs.Endings.{replied}
+use Rattle.std.proofs.Common.{◌≡◌, length, rules}
 use Rattle.rht_resume.proofs.KeptLists.{answers-plain_longer, answers-plain, AreKept-plain}
 use Rattle.rht_resume.proofs.replies.ResumeReplies.push.Goals as goal
 
