@@ -137,9 +137,9 @@ module _ {M : Type 0} (mix : ℕ → ℕ → ℕ → ℕ) (t : Table M) (limit :
         }
 
     -- its cause is that of its last walk
-    pub IsAgainCaused-over : (piece : Piece) → HasTurned mix t limit spot walking new (Some piece) now after
+    pub IsAgainCaused-over : (here : Spot) (piece : Piece) → HasTurned mix t limit here walking new (Some piece) now after
         → IsAgainCaused mix t piece old after
-    IsAgainCaused-over piece turned = earlier piece turned.cause
+    IsAgainCaused-over here piece turned = earlier piece turned.cause
       where
         fewer : length (book_of old).finished ≤ length (book_of now).finished
         fewer =
@@ -163,10 +163,3 @@ module _ {M : Type 0} (mix : ℕ → ℕ → ℕ → ℕ) (t : Table M) (limit :
             fact = cause.fact;
           },
         )
-
-  -- it makes no more walks than a table has buckets
-  pub IsNextUnderway-few : (new : Walking) (now : Pass M) → IsNextUnderway mix t limit first nodes new most_buckets old now → ⊥
-  IsNextUnderway-few new now so_far =
-      let low = so_far.low in
-      let high = so_far.high (omega arith) in
-      absurd (omega (arith, low, high))

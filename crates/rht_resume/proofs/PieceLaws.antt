@@ -119,7 +119,8 @@ module _ (limit table : ℕ) (outcome : Outcome) where
   anew-from spot pairs [] is = absurd (cc)
   anew-from spot pairs (ending ∷ endings) is = by_reply (λ s p. anew-from s p endings) ending.answer.reply refl
     where
-      by_reply : ((s : Spot) (p : List (ℕ × ℕ)) → outcome_from limit s p endings ≡ Some outcome → IsAgainBy endings) → (reply : Reply) → ending.answer.reply ≡ reply → IsAgainBy (ending ∷ endings)
+      by_reply : ((s : Spot) (p : List (ℕ × ℕ)) → outcome_from limit s p endings ≡ Some outcome → IsAgainBy endings)
+          → (reply : Reply) → ending.answer.reply ≡ reply → IsAgainBy (ending ∷ endings)
       by_reply others (replies.Walked len next) reply =
           let turn_is : turn_of limit spot pairs ending ≡ taking limit spot pairs (limit - length pairs) (drop spot.shown ending.pairs) next =
           ap (λ r. turn_by limit spot pairs r ending.pairs) reply in

@@ -2,7 +2,7 @@ use Rattle.std.proofs.Common.{◌≡◌, ℕ, ◌<◌, Some, refl, ◌∙◌, ap
 use Rattle.rht_model.specs.Rooms.{Kept}
 use Rattle.rht_resume.specs.Pieces.{Walking, begun}
 use Rattle.rht_resume.specs.ServedPieces.{most_buckets}
-use Rattle.rht_resume.proofs.NextWalks.{begun-open, IsNextUnderway-none, IsNextUnderway-more, HasResumed-over}
+use Rattle.rht_resume.proofs.NextWalks.{begun-open, IsNextUnderway-none, IsNextUnderway-more, HasResumed-over, IsAgainCaused-over}
 use Rattle.rht_resume.proofs.resumed.Resumed.next.Goals as goal
 
 pub loop-init : goal.loop-init
@@ -28,3 +28,9 @@ loop-preserved g c =
     let is : c.loop.self.spot ≡ Some c.in-Some.spot = search rules in
     IsNextUnderway-more g.M.Mix.mix_of c.args.table.now c.args.limit (begun walking.spot) walking.nodes c.args.pass.now c.loop.counter c.loop.self
     c.turn.new.self c.loop.pass c.turn.new.pass c.loop.invariant c.in-Some.spot is c.in_default-turn.ensures
+
+pub returns-in-Some-turn-clause-cause : goal.returns-in-Some-turn-clause-cause
+returns-in-Some-turn-clause-cause g c =
+    let walking = c.args.self.now in
+    IsAgainCaused-over g.M.Mix.mix_of c.args.table.now c.args.limit (begun walking.spot) walking.nodes c.args.pass.now c.loop.counter c.loop.self
+    c.turn.new.self c.loop.pass c.turn.new.pass c.loop.invariant c.in-Some.spot c.in-Some-turn.piece c.in-Some-turn.ensures
