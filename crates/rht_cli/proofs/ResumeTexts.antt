@@ -1,5 +1,5 @@
 -- What is printed of a resume script's commands is what the form `resume` prints.
-use Rattle.std.proofs.Common.{◌≡◌, ℕ, List, Option, refl, sym, arith}
+use Rattle.std.proofs.Common.{◌≡◌, ℕ, List, Option, refl, arith}
 use Rattle.rht_words.specs.declared.config.Hash.{Hash}
 use Rattle.rht_model.specs.declared.bindings.Closed.{Closed}
 use Rattle.rht_run.specs.ServedRuns.{tag_of}

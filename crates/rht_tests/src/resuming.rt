@@ -120,31 +120,47 @@ fn pieces_are_printed(rt: HostRuntime) -> Result<(), Fail> {
 
 #[test]
 fn a_nested_table_is_walked_in_pieces(rt: HostRuntime) -> Result<(), Fail> {
-    // 128 buckets take pages 0 and 1, so there is no row of four for 256: the last bind finds 129 ports, and
-    // attaches a nested table. Port 1 is moved there, before port 257, which is in the same bucket.
+    // A work moves 40 ports from a table of 256 buckets to one of 64. The bind of port 65 finds 65 ports there,
+    // and no two pages in a row for 128 buckets: it attaches a nested table. The next work puts a flat one
+    // behind that, moves all other ports there, and makes the nested one the current one.
     let alloc = rt.alloc();
-    let mut text = String::from_str(alloc, "table single pages 7 hint 96 hash low\n")?;
-    for port in 0..128u32 {
+    let mut text = String::from_str(
+        alloc,
+        "table single pages 7 hint 192 shrink on hash low work manual\n",
+    )?;
+    for port in 0..66u32 {
+        if port == 40 {
+            text.push_str("1 work\n")?;
+        }
         let line = format!(in alloc; "1 bind {port} 1\n")?;
         text.push_str(&line)?;
     }
-    text.push_str("1 bind 256 2\n1 bind 257 3\n1 next 1\n1 next 2\n1 next 2\n1 next 4096\n")?;
+    text.push_str(
+        "1 work\n1 next 1\n1 next 1\n1 next 65\n1 work\n1 next 65\n1 next 65\n1 next 65\n",
+    )?;
     let outcome = resumed(&rt, alloc, &text)?;
-    assert_same(&rt, (outcome.closed.size, outcome.closed.keys), (256, 130));
+    assert_same(&rt, (outcome.closed.size, outcome.closed.keys), (128, 66));
     assert_same(&rt, outcome.replies.len(), 1);
+    assert!(rt; 0 < outcome.replies.len());
     let answers = &outcome.replies[0];
-    assert_same(&rt, answers.len(), 134);
-    assert!(rt; 133 < answers.len());
+    assert_same(&rt, answers.len(), 75);
+    assert!(rt; 74 < answers.len());
     let part = ResumeReply::Next(Piece::Part);
-    assert_same(&rt, answers.reply(130), part);
-    assert_pairs(&rt, answers.pairs(130), &[(256, 2)]);
-    assert_same(&rt, answers.reply(131), part);
-    assert_pairs(&rt, answers.pairs(131), &[(0, 1), (1, 1)]);
-    assert_same(&rt, answers.reply(132), part);
-    assert_pairs(&rt, answers.pairs(132), &[(257, 3), (2, 1)]);
-    let end = ResumeReply::Next(Piece::End { len: 125 });
-    assert_same(&rt, answers.reply(133), end);
-    assert_same(&rt, answers.pairs(133).len(), 125);
+    assert_same(&rt, answers.reply(68), part);
+    assert_pairs(&rt, answers.pairs(68), &[(65, 1)]);
+    // At the end of the nested table the flat one is behind it, so the walk begins anew.
+    let behind = answers.reply(69);
+    assert!(rt; matches!(behind, ResumeReply::Next(Piece::Again { .. })));
+    assert_same(&rt, answers.reply(70), behind);
+    assert_same(&rt, answers.reply(72), part);
+    assert_same(&rt, answers.pairs(72).len(), 65);
+    assert_same(
+        &rt,
+        answers.reply(73),
+        ResumeReply::Next(Piece::End { len: 1 }),
+    );
+    assert_pairs(&rt, answers.pairs(73), &[(65, 1)]);
+    assert_same(&rt, answers.reply(74), part);
     Ok(())
 }
 
