@@ -24,3 +24,5 @@ pub mod ServedCommands
 pub mod WorkedCommands
 -- what all workers leave is a run
 pub mod ResumeRuns
+-- what the words of a table that stays show bucket by bucket
+pub mod StillBuckets
