@@ -3,7 +3,7 @@
 # It reads these files, and writes inputs number `first` to `last` of `seed` into `folder`. For each it prints the file that it wrote,
 # the form by which it is to be run, and how many lines it has.
 
-BEGIN { forms = split("run replay deal lease check", form, " ") }
+BEGIN { forms = split("run replay deal lease check resume", form, " ") }
 FNR == 1 {
   files++
   is_fault[files] = FILENAME ~ /\/faults\//

@@ -26,3 +26,9 @@ pub mod WorkedCommands
 pub mod ResumeRuns
 -- what the words of a table that stays show bucket by bucket
 pub mod StillBuckets
+-- a resumed walk over words that stay shows just what is bound
+pub mod QuietWalks
+-- a piece shows what its walks do, each pair bound behind some event
+pub mod BoundPieces
+-- a `next` makes few walks
+pub mod FewWalks

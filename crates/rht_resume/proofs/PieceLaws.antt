@@ -13,7 +13,7 @@ use Rattle.rht_resume.specs.Pieces.{Outcome, Turn, On, Over, Never, start, befor
 use Rattle.rht_resume.specs.Laws.{IsPieceOf, CutsRightly, AnswersAgain, BeginsAnewByWalk}
 use Rattle.rht_resume.proofs.WalkSteps.{IsWalked, OverWalked, over-taking}
 
-some_in : {A : Type 0} {one other : A} → Some one ≡ Some other → one ≡ other
+pub some_in : {A : Type 0} {one other : A} → Some one ≡ Some other → one ≡ other
 some_in {A} {one} {other} same = cc
 
 -- ---- sizes

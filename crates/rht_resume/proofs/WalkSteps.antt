@@ -26,11 +26,11 @@ use Rattle.rht_resume.specs.ServedPieces.{most_buckets, IsAgainCaused, outcome_w
 -- ---- what taking pairs may make of a `next`
 
 -- it goes on before another bucket, with all pairs of the answer
-record LeadsOn (next : Option Cursor) (pairs : List (ℕ × ℕ)) (later : Spot) (more : List (ℕ × ℕ)) : Type 0 where
-  cursor : Cursor
-  ended : next ≡ Some cursor
-  spot : later ≡ before cursor
-  all : more ≡ pairs
+pub record LeadsOn (next : Option Cursor) (pairs : List (ℕ × ℕ)) (later : Spot) (more : List (ℕ × ℕ)) : Type 0 where
+  pub cursor : Cursor
+  pub ended : next ≡ Some cursor
+  pub spot : later ≡ before cursor
+  pub all : more ≡ pairs
 
 -- behind all pairs of an answer, by whether the piece has enough
 on-enough : (enough : Bool) (cursor : Cursor) (pairs : List (ℕ × ℕ)) (later : Spot) (more : List (ℕ × ℕ))
@@ -51,7 +51,7 @@ on-few false part limit pairs next later more on = (refl, on-behind limit pairs 
 
 module _ (limit : ℕ) (spot : Spot) (pairs : List (ℕ × ℕ)) (fresh : List (ℕ × ℕ)) (next : Option Cursor) (later : Spot) (more : List (ℕ × ℕ))
     (on : taking limit spot pairs (limit - length pairs) fresh next ≡ On later more) where
-  on-taking : (nat_lt (limit - length pairs) (length fresh) ≡ false) × LeadsOn next (pairs ++ fresh) later more
+  pub on-taking : (nat_lt (limit - length pairs) (length fresh) ≡ false) × LeadsOn next (pairs ++ fresh) later more
   on-taking = on-few (nat_lt (limit - length pairs) (length fresh)) _ limit (pairs ++ fresh) next later more on
 
   -- then the piece has no more pairs than are wanted

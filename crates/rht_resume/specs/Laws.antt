@@ -4,11 +4,13 @@ use Rattle.std.specs.List.{AllByRecursion, flat_map}
 use Rattle.rht_words.specs.declared.env.Env.{Env}
 use Rattle.rht_words.specs.Members.{In, IsDistinct}
 use Rattle.rht_words.specs.Places.{Section, place_of}
+use Rattle.rht_words.specs.Shapes.{unpacked, size_of}
 use Rattle.rht_model.specs.declared.history.Entry.{Entry}
 use Rattle.rht_model.specs.declared.history.Reply.TheVariants as replies
 use Rattle.rht_model.specs.Endings.{Ending, ending_in}
 use Rattle.rht_model.specs.Multimap.{Port}
 use Rattle.rht_core.specs.declared.event.Event.{Event}
+use Rattle.rht_core.specs.Lookups.{shape_found}
 use Rattle.rht_core.specs.RunHistories.{bindings_behind}
 use Rattle.rht_core.specs.Runs.{IsAdmitted}
 use Rattle.rht_core.specs.Seen.{words_before}
@@ -126,6 +128,18 @@ module _ (M : Type 0) (mix : ℕ → ℕ → ℕ → ℕ) where
       (env : Env) (events : List Event) (c : ℕ) (spot : Spot) (made : NextMade) → IsAdmitted events → IsNextFrom spot made
       → AreAmong (walks_in made) ((traced_of {M = M} mix env events).traces c).past
       → AllByRecursion (IsBoundBetween env events (begins_at made) (ends_at made)) made.outcome.pairs
+
+  -- one of these walks found a table of so many buckets, or of more
+  abbrev pub AnyFindsTable : ℕ → List Past → Type 0
+  AnyFindsTable buckets [] = ⊥
+  AnyFindsTable buckets (past ∷ pasts) = (buckets ≤ size_of (unpacked (shape_found past.steps))) ⊎ AnyFindsTable buckets pasts
+
+  -- In every run a `next` makes no more walks than the table that one of them found has buckets.
+  abbrev pub FewWalks : Type 0
+  FewWalks =
+      (env : Env) (events : List Event) (c : ℕ) (spot : Spot) (made : NextMade) → IsAdmitted events → IsNextFrom spot made
+      → AreAmong (walks_in made) ((traced_of {M = M} mix env events).traces c).past
+      → AnyFindsTable (length (walks_in made)) (walks_in made)
 
   -- the word at this place is no caller's section word
   abbrev pub IsNoSection : Env → ℕ → Type 0
