@@ -18,8 +18,7 @@ use Rattle.rht_core.proofs.Tracing.TracesAtEvents.{at_events}
 use Rattle.rht_core.proofs.Walking.FullWalks.{AreApart, among-apart, among-all}
 use Rattle.rht_core.proofs.Walking.ShownLaw.{shown_bound}
 use Rattle.rht_resume.specs.declared.resumed.Spot.{Spot}
-use Rattle.rht_resume.specs.Laws.{NextMade, IsNextFrom, IsBoundBetween, walks_in, begins_at, ends_at, endings_in}
-use Rattle.rht_resume.specs.Laws as laws
+use Rattle.rht_resume.specs.Laws.{NextMade, IsNextFrom, IsBoundBetween, PiecesShowBound, walks_in, begins_at, ends_at, endings_in}
 use Rattle.rht_resume.specs.Pieces.{Outcome, Turn, On, Over, Never, before, start, behind_answer, taking, turn_by, turn_of, outcome_by, outcome_from, walks_by, walks_from}
 use Rattle.rht_resume.proofs.PieceLaws.{some_in}
 use Rattle.rht_resume.proofs.QuietWalks.{LiesBetween, each-between}
@@ -162,5 +161,5 @@ module _ (L : Type 0) (mix : ℕ → ℕ → ℕ → ℕ) (env : Env) (events : 
   pub bound : AllByRecursion Between made.outcome.pairs
   bound = such-from Between made.limit made.outcome spot [] (endings_in walks) tt (all-endings walks each-shows) is_next.outcome
 
-pub shows_bound : (L : Type 0) (mix : ℕ → ℕ → ℕ → ℕ) → laws.ShowsBound L mix
+pub shows_bound : (L : Type 0) (mix : ℕ → ℕ → ℕ → ℕ) → PiecesShowBound L mix
 shows_bound L mix env events c spot made admitted is_next among = bound L mix env events c spot made admitted is_next among

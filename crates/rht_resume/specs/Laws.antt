@@ -5,6 +5,8 @@ use Rattle.rht_words.specs.declared.env.Env.{Env}
 use Rattle.rht_words.specs.Members.{In, IsDistinct}
 use Rattle.rht_words.specs.Places.{Section, place_of}
 use Rattle.rht_words.specs.Shapes.{unpacked, size_of}
+use Rattle.rht_model.specs.declared.history.Call.TheVariants.{Walk}
+use Rattle.rht_model.specs.declared.history.Cursor.{Cursor}
 use Rattle.rht_model.specs.declared.history.Entry.{Entry}
 use Rattle.rht_model.specs.declared.history.Reply.TheVariants as replies
 use Rattle.rht_model.specs.Endings.{Ending, ending_in}
@@ -87,6 +89,24 @@ pub record IsNextFrom (spot : Spot) (made : NextMade) : Type 0 where
   pub outcome : outcome_of made.limit spot (endings_in (walks_in made)) ≡ Some made.outcome
   pub calls : map (λ past. past.done.call) (walks_in made) ≡ walks_of made.limit spot (endings_in (walks_in made))
 
+-- the cursor is to a later bucket of the same table, where there was one before
+abbrev pub GoesOnFrom : Option Cursor → Cursor → Type 0
+GoesOnFrom None cursor = 0 < cursor.bucket
+GoesOnFrom (Some from) cursor = (cursor.serial ≡ from.serial) × (from.bucket < cursor.bucket)
+
+-- each of these walks but the last one ended with such a cursor, with which the next one goes on
+abbrev pub AreRising : Option Cursor → List Past → Type 0
+AreRising from [] = Unit {0}
+AreRising from (past ∷ []) = Unit {0}
+AreRising from (past ∷ next ∷ pasts) =
+    (len : ℕ) × (cursor : Cursor) × (past.done.reply ≡ replies.Walked len (Some cursor)) × GoesOnFrom from cursor
+    × (next.done.call ≡ Walk (Some cursor) 1) × AreRising (Some cursor) (next ∷ pasts)
+
+-- one of these walks found a table of so many buckets, or of more
+abbrev pub AnyFindsTable : ℕ → List Past → Type 0
+AnyFindsTable buckets [] = ⊥
+AnyFindsTable buckets (past ∷ pasts) = (buckets ≤ size_of (unpacked (shape_found past.steps))) ⊎ AnyFindsTable buckets pasts
+
 -- the piece is the last one of its walk
 abbrev pub IsLastPiece : Piece → Type 0
 IsLastPiece Part = ⊥
@@ -123,23 +143,18 @@ module _ (M : Type 0) (mix : ℕ → ℕ → ℕ → ℕ) where
     pub is : bindings_behind M mix env events at pair.0 ≡ pair.1 ∷ rest
 
   -- In every run each pair that a `next` shows is a port and its first owner behind some event of that call.
-  abbrev pub ShowsBound : Type 0
-  ShowsBound =
+  abbrev pub PiecesShowBound : Type 0
+  PiecesShowBound =
       (env : Env) (events : List Event) (c : ℕ) (spot : Spot) (made : NextMade) → IsAdmitted events → IsNextFrom spot made
       → AreAmong (walks_in made) ((traced_of {M = M} mix env events).traces c).past
       → AllByRecursion (IsBoundBetween env events (begins_at made) (ends_at made)) made.outcome.pairs
 
-  -- one of these walks found a table of so many buckets, or of more
-  abbrev pub AnyFindsTable : ℕ → List Past → Type 0
-  AnyFindsTable buckets [] = ⊥
-  AnyFindsTable buckets (past ∷ pasts) = (buckets ≤ size_of (unpacked (shape_found past.steps))) ⊎ AnyFindsTable buckets pasts
-
-  -- In every run a `next` makes no more walks than the table that one of them found has buckets.
-  abbrev pub FewWalks : Type 0
-  FewWalks =
+  -- In every run the walks of a `next` rise within one table, and there are no more of them than a table that one of them found has buckets.
+  abbrev pub WalksRise : Type 0
+  WalksRise =
       (env : Env) (events : List Event) (c : ℕ) (spot : Spot) (made : NextMade) → IsAdmitted events → IsNextFrom spot made
       → AreAmong (walks_in made) ((traced_of {M = M} mix env events).traces c).past
-      → AnyFindsTable (length (walks_in made)) (walks_in made)
+      → AreRising spot.cursor (walks_in made) × AnyFindsTable (length (walks_in made)) (walks_in made)
 
   -- the word at this place is no caller's section word
   abbrev pub IsNoSection : Env → ℕ → Type 0

@@ -1,7 +1,7 @@
 -- Which piece comes of what a resumed walk's calls are answered, and where the walk is then.
 --
--- A resumed walk calls `walk` with its cursor and the limit 1, so that each answer has the pairs of one bucket at most. It passes over as many
--- pairs of the first answer as it has shown there, and takes pairs until the piece has enough.
+-- A resumed walk calls `walk` with its cursor and the limit 1, so that each answer has the pairs of one bucket at most. Of the first answer it passes
+-- over as many pairs as were shown before, whichever bucket they are of, and it takes pairs until the piece has enough.
 use Rattle.std.specs.Prelude.{ℕ, ◌+◌, ◌-◌, ◌==◌, nat_lt, if◌then◌else◌, Option, None, Some, List, [], ◌∷◌, ◌++◌, length, take, drop}
 use Rattle.rht_model.specs.declared.finished.Finished.{Finished}
 use Rattle.rht_model.specs.declared.history.Call.{Call}

@@ -42,8 +42,8 @@ abbrev pub outcome_with : Piece → Walking → Outcome
 outcome_with piece walking = record { piece = piece; spot = walking.spot; pairs = walking.pairs }
 
 -- The walk has gone on from where it was. The pass is in no call, and its finished calls are those of `before` and, behind them, walks alone:
--- those that this `next` makes of their answers, of which there are no more than a table has buckets. The piece, its pairs and where the walk is
--- then are what comes of these answers.
+-- those that this `next` makes of their answers, of which there are no more than the greatest table has buckets. The piece, its pairs and where the
+-- walk is then are what comes of these answers.
 pub record HasResumed {M : Type 0} (mix : ℕ → ℕ → ℕ → ℕ) (t : Table M) (limit : ℕ) (old new : Walking) (piece : Piece)
     (before now : Pass M) : Type 0 where
   pub endings : List Ending

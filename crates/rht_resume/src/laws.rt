@@ -2,7 +2,7 @@
 //! is empty, and its clause is the law. What else is so of the run that they leave, is said of every run that
 //! serves commands (the laws of `rht_core`, and `HasRun` of `rht_run`).
 
-ghost use Rattle.rht_resume.specs.Laws.{CutsRightly, BeginsAnewByWalk, DecidesAnswers, FewWalks, ShowsBound, ShowsAllOnce, HistoryFits};
+ghost use Rattle.rht_resume.specs.Laws.{CutsRightly, BeginsAnewByWalk, DecidesAnswers, WalksRise, PiecesShowBound, ShowsAllOnce, HistoryFits};
 
 use rht_policy::Mix;
 
@@ -21,14 +21,15 @@ pub fn decided()
     ensures { DecidesAnswers }
 {}
 
-/// In every run a `next` makes no more walks than the table that one of them found has buckets.
+/// In every run the walks of a `next` go on from bucket to later bucket of one table, and there are no more of them than the table that one of
+/// them found has buckets.
 pub fn few_walks<M: Mix>()
-    ensures { FewWalks M M.mix_of }
+    ensures { WalksRise M M.mix_of }
 {}
 
 /// In every run each pair that a `next` shows is a port and its first owner behind some event of that call.
 pub fn bound<M: Mix>()
-    ensures { ShowsBound M M.mix_of }
+    ensures { PiecesShowBound M M.mix_of }
 {}
 
 /// In every run a resumed walk over words that stay, but for section words, shows each port that these stand for, once and with its first owner,

@@ -16,7 +16,8 @@ pub enum Piece {
     Part,
     /// The walk has come to the table's end, with so many pairs in this piece.
     End { len: u32 },
-    /// Refused: the walk has to begin anew, with the table of this slot, from 0 to 7. The piece has no pairs.
+    /// Refused: the walk has to begin anew, since a table lies behind the walked one, in this slot, from 0 to 7; or
+    /// this is the current one, which the cursor doesn't fit. The piece has no pairs.
     Again { table: u32 },
 }
 

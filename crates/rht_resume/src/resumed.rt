@@ -21,7 +21,8 @@ use std::marker::Model;
 pub struct Spot {
     /// With what the next walk goes on; without one it begins at the first bucket.
     pub cursor: Option<Cursor>,
-    /// How many pairs of the next occupied bucket were shown.
+    /// How many pairs were shown of the occupied bucket that came next; so many of the next walk are passed over,
+    /// whichever bucket they are of.
     pub shown: u32,
 }
 
@@ -34,9 +35,9 @@ const START: Spot = Spot {
 /// A table has no more buckets than so many.
 const MOST_BUCKETS: u32 = 262_144;
 
-/// A walk in pieces, each of at most as many pairs as its caller states. It is kept beside a pass, and may be
-/// used with any table that has as many nodes. Contracts see where it is, and the pairs of its last piece. No
-/// call but `new` takes memory.
+/// A walk in pieces, each of at most as many pairs as its caller states. It is kept beside a pass, for a table
+/// that has as many nodes. Before it walks another table it is to be restarted, since a cursor into one table may
+/// fit another. Contracts see where it is, and the pairs of its last piece. No call but `new` takes memory.
 #[derive(Debug, Drop)]
 pub struct Resumed {
     /// None once the walk has ended.
@@ -94,13 +95,15 @@ impl Resumed {
 
     /// The next piece of the walk, with no more pairs than the limit, which is 1 to the number of nodes; they
     /// stand in `pairs`. It waits for nobody and takes no memory. Its calls of `Table::walk` go on from bucket
-    /// to bucket of one table, so there are no more of them than this has buckets.
+    /// to later bucket of one table, so there are no more of them than this has buckets (`laws::few_walks`).
     ///
-    /// `Part` has as many pairs as the limit says. `End` has the others, and the walk is ended then. `Again` comes
-    /// where a walk was answered so, for its cause; the piece has no pairs, and the walk is at its start.
+    /// `Part` has as many pairs as the limit says, and the walk goes on. `End` comes with the rest of them at the
+    /// table's end, and the walk is ended then. `Again` comes where a walk was answered so, for its cause; the
+    /// piece has no pairs, and the walk is at its start.
     ///
-    /// Of a bucket it keeps how many pairs it has shown, and no more. Where bindings come or go in between, pairs
-    /// of a bucket may be shown twice or be passed over, as they may where two walks are made.
+    /// Each pair was bound at some moment of this call (`laws::bound`). Where nothing changes in between, the
+    /// pieces of a whole walk show each bound port once (`laws::quiet`). Otherwise a port that stays bound may be
+    /// shown twice, or not at all: of a bucket it keeps how many pairs it has shown, and no more.
     pub fn next<M: Mix>(&mut self, table: &Table<M>, pass: &mut Pass<M>, limit: u32) -> Piece
         requires open { self.old.spot ≢ None }
         requires nodes { self.old.nodes ≡ table.now.env.config.nodes }
