@@ -7,6 +7,7 @@ ghost use Rattle.rht_run.specs.Passes.{IsPassOf, AreNew, IsNew};
 
 use crate::asserts::{assert_bound, assert_same};
 use crate::run::SMALL;
+use crate::turns::InTurn;
 use rht_io::{Gate, NoGate};
 use rht_lease::{LeaseOutcome, LeaseReplies, LeaseReply, Leases, Swept, read_leases, run_leases};
 use rht_model::Reply;
@@ -15,10 +16,8 @@ use rht_run::{Pass, Table};
 use rht_script::ReadError;
 use rht_words::{Hash, Port};
 use std::alloc::{AllocError, Global};
-use std::hint::spin_loop;
 use std::process::Abort;
 use std::sync::Wait;
-use std::sync::atomic::{AtomicU64, Ordering};
 use std::test::Fail;
 use std::thread::Threads;
 
@@ -118,41 +117,12 @@ fn books_keep_what_was_granted(rt: HostRuntime) -> Result<(), Fail> {
     Ok(())
 }
 
-/// How often a worker looks whether it is its turn.
-const TURNS: u32 = 100_000_000;
-
-/// Has two workers do their commands in turn, the first one's first: the command at place i of worker w has the
-/// turn 2i + w.
-#[derive(Drop)]
-struct InTurn {
-    turn: AtomicU64,
-}
-
-impl Gate for InTurn {
-    fn before(&self, worker: u32, index: u32) {
-        let own = 2 * u64::from(index) + u64::from(worker);
-        for _ in 0..TURNS {
-            if self.turn.load(Ordering::SeqCst) == own {
-                return;
-            }
-            spin_loop();
-        }
-    }
-
-    fn after(&self, _worker: u32, _index: u32) {
-        self.turn.fetch_add(1, Ordering::SeqCst);
-    }
-}
-
 #[test]
 fn workers_lease_in_turn(rt: HostRuntime) -> Result<(), Fail> {
     // The lines stand in the order of the turns. A worker's sweep ends the leases of its own book alone.
     let text =
         "table single workers 2\n1 lease 80 1 10\n2 lease 80 2 10\n1 sweep 11\n2 lease 80 2 20\n1 lease 80 1 20\n2 cancel 80 2\n1 lease 80 1 30\n2 sweep 40\n1 count\n2 find 80\n";
-    let gate = InTurn {
-        turn: AtomicU64::new(3),
-    };
-    let outcome = lease(&rt, rt.alloc(), text, &gate)?;
+    let outcome = lease(&rt, rt.alloc(), text, &InTurn::new())?;
     assert_same(&rt, outcome.replies.len(), 2);
     assert!(rt; 1 < outcome.replies.len());
     assert_answers(

@@ -23,3 +23,5 @@ mod replaying;
 mod resuming;
 #[cfg(test)]
 mod run;
+#[cfg(test)]
+mod turns;

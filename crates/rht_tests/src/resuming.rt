@@ -8,10 +8,12 @@ ghost use Rattle.rht_run.specs.Passes.{IsPassOf, AreNew, IsNew};
 
 use crate::asserts::{assert_pairs, assert_same};
 use crate::run::SMALL;
-use rht_io::{MemSink, NoGate};
+use crate::turns::InTurn;
+use rht_io::{Gate, MemSink, NoGate};
 use rht_policy::{Lookup3, Low, Mix};
 use rht_resume::{
-    Piece, ResumeOutcome, ResumeReply, Resumed, read_resume, run_resumed, write_resumed,
+    Piece, ResumeOutcome, ResumeReplies, ResumeReply, Resumed, read_resume, run_resumed,
+    write_resumed,
 };
 use rht_run::{Pass, Table};
 use rht_script::ReadError;
@@ -23,15 +25,16 @@ use std::test::Fail;
 use std::thread::Threads;
 
 /// Reads a resume script and does it. A fault is want of memory here: the scripts of these tests have none.
-fn resumed<R: Threads + Wait + Sync>(
+fn resumed<R: Threads + Wait + Sync, G: Gate + Sync>(
     rt: &R,
     alloc: Global,
     text: &str,
+    gate: &G,
 ) -> Result<ResumeOutcome, AllocError> {
     match read_resume(alloc, text.as_bytes()) {
         Ok(script) => match script.config.hash {
-            Hash::Mix => run_resumed::<Lookup3, _, _>(rt, alloc, &script, &NoGate),
-            Hash::Low => run_resumed::<Low, _, _>(rt, alloc, &script, &NoGate),
+            Hash::Mix => run_resumed::<Lookup3, _, _>(rt, alloc, &script, gate),
+            Hash::Low => run_resumed::<Low, _, _>(rt, alloc, &script, gate),
         },
         Err(ReadError::Fault(_)) | Err(ReadError::Memory) => Err(AllocError),
     }
@@ -106,7 +109,7 @@ fn pieces_are_printed(rt: HostRuntime) -> Result<(), Fail> {
     let alloc = rt.alloc();
     for i in 0..CASES.len() {
         let case = &CASES[i];
-        let outcome = resumed(&rt, alloc, case.script)?;
+        let outcome = resumed(&rt, alloc, case.script, &NoGate)?;
         let mut sink = MemSink::new(alloc, 1024, Vec::new(alloc))?;
         assert!(rt; write_resumed(&mut sink, &outcome).is_ok());
         assert_same(
@@ -138,7 +141,7 @@ fn a_nested_table_is_walked_in_pieces(rt: HostRuntime) -> Result<(), Fail> {
     text.push_str(
         "1 work\n1 next 1\n1 next 1\n1 next 65\n1 work\n1 next 65\n1 next 65\n1 next 65\n",
     )?;
-    let outcome = resumed(&rt, alloc, &text)?;
+    let outcome = resumed(&rt, alloc, &text, &NoGate)?;
     assert_same(&rt, (outcome.closed.size, outcome.closed.keys), (128, 66));
     assert_same(&rt, outcome.replies.len(), 1);
     assert!(rt; 0 < outcome.replies.len());
@@ -161,6 +164,39 @@ fn a_nested_table_is_walked_in_pieces(rt: HostRuntime) -> Result<(), Fail> {
     );
     assert_pairs(&rt, answers.pairs(73), &[(65, 1)]);
     assert_same(&rt, answers.reply(74), part);
+    Ok(())
+}
+
+/// Asserts that the answer at this place is this piece with these pairs.
+fn assert_piece(
+    rt: &impl Abort,
+    answers: &ResumeReplies,
+    i: usize,
+    piece: Piece,
+    pairs: &[(u64, u32)],
+) {
+    assert!(rt; i < answers.len());
+    assert_same(rt, (i, answers.reply(i)), (i, ResumeReply::Next(piece)));
+    assert_pairs(rt, answers.pairs(i), pairs);
+}
+
+#[test]
+fn workers_walk_in_turn(rt: HostRuntime) -> Result<(), Fail> {
+    // The lines stand in the order of the turns. Bucket 0 has both ports, and each worker has a walk of its own.
+    let text = "table single workers 2 hash low\n1 bind 0 10\n2 bind 64 20\n1 next 1\n2 next 1\n1 next 1\n2 next 2\n1 next 1\n2 next 1\n";
+    let outcome = resumed(&rt, rt.alloc(), text, &InTurn::new())?;
+    assert_same(&rt, outcome.replies.len(), 2);
+    assert!(rt; 1 < outcome.replies.len());
+    let first = &outcome.replies[0];
+    assert_same(&rt, first.len(), 4);
+    assert_piece(&rt, first, 1, Piece::Part, &[(64, 20)]);
+    assert_piece(&rt, first, 2, Piece::Part, &[(0, 10)]);
+    assert_piece(&rt, first, 3, Piece::End { len: 0 }, &[]);
+    let second = &outcome.replies[1];
+    assert_same(&rt, second.len(), 4);
+    assert_piece(&rt, second, 1, Piece::Part, &[(64, 20)]);
+    assert_piece(&rt, second, 2, Piece::End { len: 1 }, &[(0, 10)]);
+    assert_piece(&rt, second, 3, Piece::Part, &[(64, 20)]);
     Ok(())
 }
 
