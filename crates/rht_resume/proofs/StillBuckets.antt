@@ -49,10 +49,10 @@ module _ (g : Geometry) (words : List ℕ) where
 
   -- the pairs of a bucket of it, and those of all
   abbrev pub bucket_pairs : ℕ → List (ℕ × ℕ)
-  bucket_pairs b = map (pair_at g words) (bucket_nodes g words (bucket_in g words (shape_of g words current) b))
+  bucket_pairs b = map pair_at (bucket_nodes g words (bucket_in g words (shape_of g words current) b))
 
   abbrev pub all_bucket_pairs : List (ℕ × ℕ)
-  all_bucket_pairs = map (pair_at g words) (table_nodes g words current)
+  all_bucket_pairs = map pair_at (table_nodes g words current)
 
   -- no table is behind it
   abbrev pub IsNoneBehind : Type 0
