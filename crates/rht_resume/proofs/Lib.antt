@@ -32,3 +32,5 @@ pub mod QuietWalks
 pub mod BoundPieces
 -- a `next` makes few walks
 pub mod FewWalks
+-- what a walk of limit 1 answers that finds them
+pub mod StillWalks
