@@ -1,7 +1,7 @@
 -- What a walk knows with one pair more: a node was visited whose port wasn't shown, so there is room for its pair.
-use Rattle.std.proofs.Common.{◌≡◌, ◌⊎◌, ℕ, ◌+◌, ◌<◌, ◌≤◌, Bool, true, List, [], ◌∷◌, ◌++◌, length, map, Option, Some, sym, ◌∙◌, ap, subst, inl, inr, arith}
+use Rattle.std.proofs.Common.{◌≡◌, ◌⊎◌, ℕ, ◌+◌, ◌<◌, ◌≤◌, nat_lt, Bool, true, List, [], ◌∷◌, ◌++◌, length, map, Option, Some, sym, ◌∙◌, ap, subst, inl, inr, arith}
 use Rattle.std.specs.Prelude.{if◌then◌else◌}
-use Rattle.std.proofs.lemmas.Bool.{lt-ltb}
+use Rattle.std.proofs.lemmas.Bool.{cond_both, lt-ltb}
 use Rattle.std.proofs.lemmas.List.{append-nil, length-map, map-append}
 use Rattle.std.specs.List.{AllByRecursion}
 use Rattle.rht_words.specs.declared.env.Env.{Env}
@@ -51,6 +51,13 @@ with_room room pair less =
     ap (λ b. (if b then record { items = room.items ++ pair ∷ []; limit = room.limit } else room).items)
     (lt-ltb (length room.items) room.limit less)
 
+-- where each pair is so, and this one too, each one is with it, kept or not
+pub each_kept : (Is : ℕ × ℕ → Type 0) (room : Pairs) (pair : ℕ × ℕ) → AllByRecursion Is room.items → Is pair
+    → AllByRecursion Is (with_kept room pair).items
+each_kept Is room pair each is =
+    cond_both (nat_lt (length room.items) room.limit) _ _ (λ (r : Pairs). AllByRecursion Is r.items)
+    (λ t. AllByRecursion-push Is room.items pair each is) (λ f. each)
+
 module _ (env : Env) (mix : ℕ → ℕ → ℕ → ℕ) (from : Option Cursor) (begin now : ℕ) (Missed WasLast : ℕ → Type 0) (Bound : ℕ × ℕ → Type 0)
     (seen : ℕ → Bool) (room : Pairs) (words : List ℕ) (G : Ghost) (P : Places) (whole : Whole env mix (mem env mix words) G)
     (right : PlacesRight env mix G P (mem env mix words) now) (deaths : DeathsRight env (mem env mix words) G P now)
@@ -85,11 +92,10 @@ module _ (env : Env) (mix : ℕ → ℕ → ℕ → ℕ) (from : Option Cursor) 
   more_is : τ + 1 ≡ G.attached → more ≡ room.items ++ pair ∷ []
   more_is last =
       let known = (chained.known last).buckets.room in
-      let new = at.new last in
       let few = few-nodes env.geometry.nodes (key_of M) known.nodes m among
       (λ n i. (late_used env mix M G P whole 0 n (known.each n i).0.late).0)
       (subst IsDistinct known.keys known.distinct)
-      (λ there. new.apart (subst (In key) (sym known.keys) (subst (λ k. In k (map (key_of M) known.nodes)) new.is there))) in
+      (λ there. at.apart last (subst (In key) (sym known.keys) (subst (λ k. In k (map (key_of M) known.nodes)) at.is there))) in
       let count = length-map room.items (λ (p : ℕ × ℕ). p.0) in
       let same = ap length known.keys in
       with_room room pair (omega (arith, few, count, same, roomy))
@@ -120,14 +126,13 @@ module _ (env : Env) (mix : ℕ → ℕ → ℕ → ℕ) (from : Option Cursor) 
   room_more last bound =
       let known = chained.known last in
       let old = known.buckets.room in
-      let new = at.new last in
       let here = hash_is env mix from begin now Missed WasLast Bound seen room.items words G P whole right deaths of_ports chain m within
       walked
       chained.place_is m known.at known.is in
       record {
         nodes = old.nodes ++ m ∷ [];
         keys = ports_more last ∙ ap (λ xs. xs ++ key ∷ []) old.keys
-            ∙ ap (λ k. map (key_of M) old.nodes ++ k ∷ []) (sym new.is) ∙ sym (map-append (key_of M) old.nodes (m ∷ []));
+            ∙ ap (λ k. map (key_of M) old.nodes ++ k ∷ []) (sym at.is) ∙ sym (map-append (key_of M) old.nodes (m ∷ []));
         each = λ n i. elim (In-append_cases n old.nodes (m ∷ []) i) [
           | inl before ↦ let is = old.each n before in (
             record { met = is.0.met; late = is.0.late; from_first = is.0.from_first },
@@ -145,7 +150,7 @@ module _ (env : Env) (mix : ℕ → ℕ → ℕ → ℕ) (from : Option Cursor) 
         ];
         distinct = subst IsDistinct (sym (ports_more last)) (IsDistinct-with (ports_of room.items) key []
             (subst IsDistinct (sym (append-nil (ports_of room.items))) old.distinct)
-            (not_in_from key (ports_of room.items) new.apart) tt);
+            (not_in_from key (ports_of room.items) (at.apart last)) tt);
         bound = subst (AllByRecursion Bound) (sym (more_is last)) (AllByRecursion-push Bound room.items pair old.bound bound);
       }
     where

@@ -9,7 +9,6 @@ use Rattle.rht_words.specs.Places.{IsBucketPlace}
 use Rattle.rht_words.specs.declared.op.Op.TheVariants.{Load}
 use Rattle.rht_words.specs.Shapes.{unpacked, size_of}
 use Rattle.rht_words.proofs.Memory.{Memory}
-use Rattle.rht_words.specs.Ports.{IsPort}
 use Rattle.rht_model.specs.declared.history.Cursor.{Cursor}
 use Rattle.rht_walk.specs.Walk.{IsVisitIn, chain_of as chain_at, one_more}
 use Rattle.rht_walk.specs.declared.walk.Visit.{Visit}
@@ -230,8 +229,7 @@ module _ (env : Env) (mix : ℕ → ℕ → ℕ → ℕ) (from : Option Cursor) 
             let from = late.late in
             omega (arith, same, early, from)
 
-    pub key_known : (key : ℕ) → (IsPort (key_of M m) → key_of M m ≡ key) → seen m ≡ true
-        → InChain chain m (AtKeyHere chain m) (λ at. at + 1)
+    pub key_known : (key : ℕ) → key_of M m ≡ key → seen m ≡ true → InChain chain m (AtKeyHere chain m) (λ at. at + 1)
         → IsAtOwner env mix from begin now Missed WasLast Bound seen items M G P chain m key
     key_known key is stood at = record {
       in_chain = record {
@@ -245,7 +243,6 @@ module _ (env : Env) (mix : ℕ → ℕ → ℕ → ℕ) (from : Option Cursor) 
         late = at.late;
         known = λ last.
             let known = at.known last in
-            let same = is (of_ports.small bucket m known.at known.is) in
             record {
               at = known.at;
               is = known.is;
@@ -253,7 +250,7 @@ module _ (env : Env) (mix : ℕ → ℕ → ℕ → ℕ) (from : Option Cursor) 
               buckets = record {
                 behind = known.buckets.behind;
                 here = λ port low number_is. elim (cases_eq (key_of M m) port) [
-                  | inl e ↦ inl (sym e ∙ same)
+                  | inl e ↦ inl (sym e ∙ is)
                   | inr ne ↦ inr (key_differs env mix port seen at.since now M G P whole right deaths (SaidHere port) table bucket m
                       chain.visited (known.buckets.here port low number_is) stood ne)
                 ];
@@ -262,10 +259,8 @@ module _ (env : Env) (mix : ℕ → ℕ → ℕ → ℕ) (from : Option Cursor) 
               };
             };
       };
-      new = λ last.
-          let known = at.known last in
-          let same = is (of_ports.small bucket m known.at known.is) in
-          record { is = same; apart = λ there. new_key at last (subst (λ k. In k (ports_of items)) (sym same) there) };
+      is = is;
+      apart = λ last there. new_key at last (subst (λ k. In k (ports_of items)) (sym is) there);
     }
 
     -- ---- its link

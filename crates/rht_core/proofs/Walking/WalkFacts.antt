@@ -1,5 +1,6 @@
 -- What a walk knows in each of its states, by the words and the ghost of one moment: which ports were bound nowhere meanwhile, which are
--- shown, and which it may come to still. All of it but that nodes were first ones late is said where no table is behind the walked one.
+-- shown, and which it may come to still. All of it but that nodes were first ones late, and the key of one, is said where no table is behind
+-- the walked one.
 use Rattle.std.proofs.Common.{◌≡◌, ◌⊎◌, ℕ, ◌+◌, ◌<◌, ◌≤◌, Bool, true, List, [], map, Option, Some, None, ◌/◌}
 use Rattle.std.specs.List.{AllByRecursion}
 use Rattle.rht_words.specs.declared.env.Env.{Env}
@@ -167,15 +168,11 @@ module _ (env : Env) (mix : ℕ → ℕ → ℕ → ℕ) where
     abbrev pub HereAtLink : Chain → ℕ → ℕ → ℕ → Type 0
     HereAtLink chain m since port = StageIs port since (AtLink chain.visit.table (word_index env mix chain.place) m (chain.visited + 1))
 
-    -- the key that was loaded is the node's, and wasn't shown
-    pub record IsNewKey (m key : ℕ) : Type 0 where
-      pub is : key_of M m ≡ key
-      pub apart : In key (ports_of items) → ⊥
-
-    -- before its owner is loaded
+    -- before its owner is loaded: the key that was loaded is the node's, and wasn't shown where no table is behind
     pub record IsAtOwner (chain : Chain) (m key : ℕ) : Type 0 where
       pub in_chain : IsInChain chain m (λ since port. (port ≡ key) ⊎ HereAtLink chain m since port) (λ at. at + 1)
-      pub new : IsLast chain.visit.table → IsNewKey m key
+      pub is : key_of M m ≡ key
+      pub apart : IsLast chain.visit.table → In key (ports_of items) → ⊥
 
     -- behind the last bucket
     pub record IsAtEnd (slot : ℕ) : Type 0 where

@@ -298,12 +298,8 @@ module _ (env : Env) (mix : ℕ → ℕ → ℕ → ℕ) (from : Option Cursor) 
           → IsAtOwner env mix from begin now' Missed' WasLast' Bound' seen' items M' G' P' chain m key
       owner_then chain m key attached stood owner = record {
         in_chain = chain_then chain m _ _ _ attached stood (λ since port began. either since port began) owner.in_chain;
-        new = λ last.
-            let new = owner.new (slot_last chain.visit.table attached last) in
-            record {
-              is = (node_then owner.in_chain.since m owner.in_chain.so_far stood owner.in_chain.late).1 ∙ new.is;
-              apart = new.apart;
-            };
+        is = (node_then owner.in_chain.since m owner.in_chain.so_far stood owner.in_chain.late).1 ∙ owner.is;
+        apart = λ last. owner.apart (slot_last chain.visit.table attached last);
       }
         where
           either : (since port : ℕ) → since ≤ now
