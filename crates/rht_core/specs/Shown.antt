@@ -1,4 +1,4 @@
--- What a full walk shows, in every run.
+-- What walks show, in every run: full ones, and each call that has ended.
 use Rattle.std.specs.Prelude.{◌≡◌, ◌≢◌, ℕ, ◌^◌, ◌<◌, ◌≤◌, ◌⊎◌, Some, None, Option, List, [], ◌∷◌, length, map}
 use Rattle.std.specs.List.{AllByRecursion, flat_map}
 use Rattle.rht_words.specs.declared.env.Env.{Env}
@@ -86,8 +86,21 @@ module _ (M : Type 0) (mix : ℕ → ℕ → ℕ → ℕ) where
       → AreAmong (first ∷ pasts) ((traced_of {M = M} mix env events).traces c).past
       → ShowsRightly env events first.begin (ends_behind (behind_call first) pasts) (pairs_of (first ∷ pasts))
 
-  -- in every run it is so of each call that has ended
+  -- in every run each call that has ended shows what it loaded
   abbrev pub ShownWhole : Type 0
   ShownWhole =
       (env : Env) (events : List Event) (c : ℕ) → IsAdmitted events
       → AllByRecursion (ShowsLoaded env) ((traced_of {M = M} mix env events).traces c).past
+
+  -- a walk that has ended and hasn't to begin anew shows ports with their first owners, each behind some event of it
+  abbrev pub ShowsBound : Env → List Event → Past → Type 0
+  ShowsBound env events past =
+      (from : Option Cursor) (limit len : ℕ) (next : Option Cursor) → past.done.call ≡ Walk from limit → past.done.reply ≡ Walked len next
+      → AllByRecursion (λ pair. (i : ℕ) × (rest : List ℕ) × (past.begin < i) × (i ≤ behind_call past)
+      × (bindings_behind M mix env events i pair.0 ≡ pair.1 ∷ rest)) past.done.pairs
+
+  -- in every run it is so of each call that has ended
+  abbrev pub ShownBound : Type 0
+  ShownBound =
+      (env : Env) (events : List Event) (c : ℕ) → IsAdmitted events
+      → AllByRecursion (ShowsBound env events) ((traced_of {M = M} mix env events).traces c).past

@@ -19,7 +19,7 @@ ghost use Rattle.rht_core.specs.Refused.{Refused};
 ghost use Rattle.rht_core.specs.Tables.{Tables, NeverAgain};
 ghost use Rattle.rht_core.specs.RunHistories.{HasFittingHistory};
 ghost use Rattle.rht_core.specs.Sections.{Sections, OwnSections};
-ghost use Rattle.rht_core.specs.Shown.{Shown, ShownWhole};
+ghost use Rattle.rht_core.specs.Shown.{Shown, ShownBound, ShownWhole};
 ghost use Rattle.rht_core.specs.ToldHistories.{HasToldHistory};
 ghost use Rattle.rht_core.specs.Worked.{Worked, GivesRetiredBack};
 ghost use Rattle.rht_core.specs.Laws.{Extends, InRange, Enrolled, NotEnrolled, Replies, Remembers, AtEvents, AllStepsTraced, TakenAlone, WordsFit};
@@ -401,10 +401,12 @@ pub fn found<M: Mix>()
 ///
 /// Each walk that was answered `Walked` shows the owner of each node that it loaded, in the order of its loads. So it
 /// has kept each pair, also where a table came behind the one that it walked; only one that was answered `Again` may
-/// have met its room full.
+/// have met its room full. And each pair that it shows is a port and its first owner behind some event from its call's
+/// beginning to its last operation, also where such a table came, and whether it came to the end or not.
 pub fn shown<M: Mix>()
     ensures rightly { Shown M M.mix_of }
     ensures whole { ShownWhole M M.mix_of }
+    ensures bound { ShownBound M M.mix_of }
 {}
 
 /// In every run each operation of a look-up, of a reading of the count, of a tidying or of a walk, ended or in

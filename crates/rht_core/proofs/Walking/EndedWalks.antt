@@ -38,7 +38,7 @@ use Rattle.rht_core.proofs.Walking.LoadedOwners.{loaded_next}
 use Rattle.rht_core.proofs.Walking.OwnersLead.{loaded_after}
 use Rattle.rht_core.proofs.Walking.WalkFacts.{HasWalkedTo}
 use Rattle.rht_core.proofs.Walking.WalkOutlives.{walked_still}
-use Rattle.rht_core.proofs.Walking.WalksAtEvents.{R, MissedOf, BoundOf, WasLast, AreCounted, Walks, IsMissedIn, IsBoundIn, HasWalked, PastWalks, JobWalks, CallerWalks, same_next, is_walk, owners_said, none_found, one_found, M, M', G', longer, tables, count', count_old, count_new, last_later, missed_later, bound_later, then_places, outlives, goes_on}
+use Rattle.rht_core.proofs.Walking.WalksAtEvents.{R, MissedOf, BoundOf, WasLast, AreCounted, Walks, IsMissedIn, IsBoundIn, HasWalked, PastWalks, JobWalks, CallerWalks, same_next, is_walk, owners_said, none_found, one_found, M, M', G', longer, tables, count', count_old, count_new, last_later, missed_later, bounds_later, then_places, outlives, goes_on}
 
 -- a walk's room has room for as many as before
 pub room_limit : (state : WalkAt) (room : Pairs) (word : ℕ) → (room_after state room word).limit ≡ room.limit
@@ -89,12 +89,12 @@ module _ (L : Type 0) (mix : ℕ → ℕ → ℕ → ℕ) (env : Env) (events : 
     none = ap (λ b. b port) (behind-more L mix env events event was.at (let before = was.before in omega (arith, before, few))) ∙ was.none;
   }
 
-  bound_in : (begin behind behind' : ℕ) (pair : ℕ × ℕ) → behind ≤ here → behind ≤ behind' → IsBoundIn L mix env events begin behind pair
-      → IsBoundIn L mix env all_events begin behind' pair
-  bound_in begin behind behind' pair few most was = record {
+  bound_in : (begin behind : ℕ) (pair : ℕ × ℕ) → behind ≤ here → IsBoundIn L mix env events begin behind pair
+      → IsBoundIn L mix env all_events begin behind pair
+  bound_in begin behind pair few was = record {
     at = was.at;
     begun = was.begun;
-    before = let before = was.before in omega (arith, before, most);
+    before = was.before;
     rest = was.rest;
     is = ap (λ b. b pair.0) (behind-more L mix env events event was.at (let before = was.before in omega (arith, before, few))) ∙ was.is;
   }
@@ -112,18 +112,17 @@ module _ (L : Type 0) (mix : ℕ → ℕ → ℕ → ℕ) (env : Env) (events : 
       record {
         done_by = omega (arith, long, done_by);
         walked = walked_still env mix from past.begin here (IsMissedIn L mix env events past.begin behind)
-            (WasLast L mix env count past.begin behind) (IsBoundIn L mix env events past.begin behind)
+            (WasLast L mix env count past.begin behind)
             (IsMissedIn L mix env all_events past.begin behind) (WasLast L mix env counts past.begin behind)
-            (IsBoundIn L mix env all_events past.begin behind)
             (λ port. missed_in past.begin behind behind port done_by (omega arith))
             (λ τ. last_later L mix env events event looking turn of_ports count counted past.begin behind τ done_by behind (omega arith))
-            (λ pair. bound_in past.begin behind behind pair done_by (omega arith))
             past.done.pairs (M L mix env events event looking turn of_ports count counted) looking.placed.ghost looking.placed.places
             looking.placed.inv.whole
             (M' L mix env events event looking turn of_ports count counted) (G' L mix env events event looking turn of_ports count counted)
             (tables L mix env events event looking turn of_ports count counted).low
             (tables L mix env events event looking turn of_ports count counted).grow
             (count behind) (counts behind) (omega (arith, rises, end)) (omega (arith, same)) to was.walked;
+        bound = AllByRecursion-weaker _ _ (λ pair. bound_in past.begin behind pair done_by) past.done.pairs was.bound;
         whole = was.whole;
       }
 
@@ -159,19 +158,18 @@ module _ (L : Type 0) (mix : ℕ → ℕ → ℕ → ℕ) (env : Env) (events : 
 
     ended_walk : (items : List (ℕ × ℕ)) (to : Option Cursor)
         → HasWalkedTo env mix looking.placed.ghost looking.placed.ghost.attached from (MissedOf L mix env events c begin)
-        (WasLast L mix env count begin here) (BoundOf L mix env events c begin) items to
+        (WasLast L mix env count begin here) items to
         → HasWalkedTo env mix placed_then.ghost (counts behind) from (IsMissedIn L mix env all_events begin behind)
-        (WasLast L mix env counts begin behind) (IsBoundIn L mix env all_events begin behind) items to
+        (WasLast L mix env counts begin behind) items to
     unfolding next
     ended_walk items to walked =
         let all = count_new L mix env events event looking turn of_ports count counted behind (omega (arith, ends_here)) in
         let grown = (tables L mix env events event looking turn of_ports count counted).grow.attached in
         walked_still env mix from begin here (MissedOf L mix env events c begin) (WasLast L mix env count begin here)
-        (BoundOf L mix env events c begin) (IsMissedIn L mix env all_events begin behind) (WasLast L mix env counts begin behind)
-        (IsBoundIn L mix env all_events begin behind) missed_by
+        (IsMissedIn L mix env all_events begin behind) (WasLast L mix env counts begin behind) missed_by
         (λ τ. last_later L mix env events event looking turn of_ports count counted begin here τ (omega arith) behind
         (omega (arith, ends_here)))
-        bound_by items (M L mix env events event looking turn of_ports count counted) looking.placed.ghost looking.placed.places
+        items (M L mix env events event looking turn of_ports count counted) looking.placed.ghost looking.placed.places
         looking.placed.inv.whole
         (M' L mix env events event looking turn of_ports count counted) (G' L mix env events event looking turn of_ports count counted)
         (tables L mix env events event looking turn of_ports count counted).low
@@ -243,8 +241,9 @@ module _ (L : Type 0) (mix : ℕ → ℕ → ℕ → ℕ) (env : Env) (events : 
           done_by = omega (arith, behind_is, long);
           walked = ended_walk c from trace.begin (behind_call (ended_now from limit room reply)) behind_is room.items to
               (subst (λ t. HasWalkedTo env mix looking.placed.ghost looking.placed.ghost.attached from
-              (MissedOf L mix env events c trace.begin)
-              (WasLast L mix env count trace.begin here) (BoundOf L mix env events c trace.begin) room.items t) to_is walking.known);
+              (MissedOf L mix env events c trace.begin) (WasLast L mix env count trace.begin here) room.items t) to_is walking.known);
+          bound = AllByRecursion-weaker _ _ (bound_by c from trace.begin (behind_call (ended_now from limit room reply)) behind_is) room.items
+              walking.bound;
           whole = walking.keeps ∙ same;
         })
     ends_so from limit room (at.Closing (ends.Again table)) word reply is same walking = λ start most len to call answer.
@@ -308,11 +307,11 @@ module _ (L : Type 0) (mix : ℕ → ℕ → ℕ → ℕ) (env : Env) (events : 
       let tied = subst (tied_with env mix looking.placed.ghost) was (looking.meets c walking.low).tied in
       outlives L mix env events event looking turn of_ports count counted c walking.low from begin walking.begun room walking.roomy limit
       state does
-      tied (MissedOf L mix env events c begin) (WasLast L mix env count begin here) (BoundOf L mix env events c begin)
+      tied (MissedOf L mix env events c begin) (WasLast L mix env count begin here)
       (missed_later L mix env events event looking turn of_ports count counted c begin)
       (λ τ. last_later L mix env events event looking turn of_ports count counted begin here τ (omega arith) (length all_events)
-      (omega (arith, long)))
-      (bound_later L mix env events event looking turn of_ports count counted c begin) walking.known loaded walking.keeps
+      (omega (arith, long))) walking.known loaded walking.keeps
+      (bounds_later L mix env events event looking turn of_ports count counted c begin room.items walking.bound)
   walks_stay c begin loaded _ does was walking = tt
 
   -- ---- a call begins
@@ -327,6 +326,7 @@ module _ (L : Type 0) (mix : ℕ → ℕ → ℕ → ℕ) (env : Env) (events : 
     roomy = refl;
     known = refl;
     keeps = record { none = refl; nothing = refl };
+    bound = tt;
   }
   first_walks c low calls.Tidy batch =
       first_tidy-so (λ job. JobWalks L mix env all_events (world_step mix (R L mix env events).world event).core placed_then counts

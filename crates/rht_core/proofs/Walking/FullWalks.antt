@@ -129,7 +129,7 @@ module _ (L : Type 0) (mix : ℕ → ℕ → ℕ → ℕ) (env : Env) (events : 
       (apart : behind_call past ≤ begin)
       (rest : AllShown (Some cursor) begin behind pairs) (late : behind_call past ≤ behind) (in_time : behind ≤ length events) where
     abbrev walked : HasWalkedTo env mix G (count (behind_call past)) from (Missed past.begin (behind_call past))
-        (WasLast L mix env count past.begin (behind_call past)) (Bound past.begin (behind_call past)) past.done.pairs (Some cursor)
+        (WasLast L mix env count past.begin (behind_call past)) past.done.pairs (Some cursor)
     walked = had.walked
 
     few : count (behind_call past) ≤ G.attached
@@ -156,8 +156,7 @@ module _ (L : Type 0) (mix : ℕ → ℕ → ℕ → ℕ) (env : Env) (events : 
         let same = same_table in
         omega (arith, rises, last, low, same)
 
-    known : EndKnown env mix G walked.table (first_bucket from) walked.upto (Missed past.begin (behind_call past))
-        (Bound past.begin (behind_call past)) past.done.pairs
+    known : EndKnown env mix G walked.table (first_bucket from) walked.upto (Missed past.begin (behind_call past)) past.done.pairs
     known = walked.ends.2 last_then
 
     abbrev hash : ℕ → ℕ
@@ -218,7 +217,7 @@ module _ (L : Type 0) (mix : ℕ → ℕ → ℕ → ℕ) (env : Env) (events : 
           bound = AllByRecursion-append (Bound past.begin behind) past.done.pairs pairs
               (AllByRecursion-weaker (Bound past.begin (behind_call past)) (Bound past.begin behind)
               (λ pair is. bound_wider past.begin (behind_call past) past.begin behind pair (omega arith) late is) past.done.pairs
-              known.bound)
+              had.bound)
               (AllByRecursion-weaker (Bound begin behind) (Bound past.begin behind)
               (λ pair is. bound_wider begin behind past.begin behind pair (omega (arith, begun, apart)) (omega arith) is) pairs rest.bound);
         }
@@ -243,7 +242,7 @@ module _ (L : Type 0) (mix : ℕ → ℕ → ℕ → ℕ) (env : Env) (events : 
         shown = λ port least. known.shown port least (walked.ends.1 port);
         within = λ port there. (known.within port there).0;
         distinct = known.distinct;
-        bound = known.bound;
+        bound = had.bound;
       })
 
   -- all calls; of several no two tables may have one serial

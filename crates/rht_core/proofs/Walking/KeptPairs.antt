@@ -58,13 +58,13 @@ each_kept Is room pair each is =
     cond_both (nat_lt (length room.items) room.limit) _ _ (λ (r : Pairs). AllByRecursion Is r.items)
     (λ t. AllByRecursion-push Is room.items pair each is) (λ f. each)
 
-module _ (env : Env) (mix : ℕ → ℕ → ℕ → ℕ) (from : Option Cursor) (begin now : ℕ) (Missed WasLast : ℕ → Type 0) (Bound : ℕ × ℕ → Type 0)
+module _ (env : Env) (mix : ℕ → ℕ → ℕ → ℕ) (from : Option Cursor) (begin now : ℕ) (Missed WasLast : ℕ → Type 0)
     (seen : ℕ → Bool) (room : Pairs) (words : List ℕ) (G : Ghost) (P : Places) (whole : Whole env mix (mem env mix words) G)
     (right : PlacesRight env mix G P (mem env mix words) now) (deaths : DeathsRight env (mem env mix words) G P now)
     (of_ports : PortPlacesRight env mix (mem env mix words) G P now) (roomy : room.limit ≡ env.geometry.nodes) (chain : Chain)
     (m key owner : ℕ)
     (within : IsVisitIn chain.visit) (walked : IsWalked env mix G chain.visit) (among : m < env.geometry.nodes) (stood : seen m ≡ true)
-    (at : IsAtOwner env mix from begin now Missed WasLast Bound seen room.items (mem env mix words) G P chain m key) where
+    (at : IsAtOwner env mix from begin now Missed WasLast seen room.items (mem env mix words) G P chain m key) where
   abbrev M : Memory
   M = mem env mix words
 
@@ -83,8 +83,8 @@ module _ (env : Env) (mix : ℕ → ℕ → ℕ → ℕ) (from : Option Cursor) 
   abbrev more : List (ℕ × ℕ)
   more = (with_kept room pair).items
 
-  abbrev chained : IsInChain env mix from begin now Missed WasLast Bound seen room.items M G P chain m
-      (λ since port. (port ≡ key) ⊎ HereAtLink env mix from begin now Missed WasLast Bound seen room.items M G P chain m since port)
+  abbrev chained : IsInChain env mix from begin now Missed WasLast seen room.items M G P chain m
+      (λ since port. (port ≡ key) ⊎ HereAtLink env mix from begin now Missed WasLast seen room.items M G P chain m since port)
       (λ at. at + 1)
   chained = at.in_chain
 
@@ -116,17 +116,17 @@ module _ (env : Env) (mix : ℕ → ℕ → ℕ → ℕ) (from : Option Cursor) 
 
   -- the node's place, and the bucket of its port
   abbrev Passed : ℕ → ℕ → Type 0
-  Passed least n = IsPassed env mix from begin now Missed WasLast Bound seen more M G P slot chain.visit.bucket j least chained.since n
+  Passed least n = IsPassed env mix from begin now Missed WasLast seen more M G P slot chain.visit.bucket j least chained.since n
 
   abbrev IsShownNow : ℕ → Type 0
-  IsShownNow n = IsShown env mix from begin now Missed WasLast Bound seen more M G P slot n
+  IsShownNow n = IsShown env mix from begin now Missed WasLast seen more M G P slot n
 
-  room_more : (last : τ + 1 ≡ G.attached) → Bound pair
-      → RoomKnown env mix from begin now Missed WasLast Bound seen more M G P slot (Passed (chained.known last).at)
-  room_more last bound =
+  room_more : (last : τ + 1 ≡ G.attached)
+      → RoomKnown env mix from begin now Missed WasLast seen more M G P slot (Passed (chained.known last).at)
+  room_more last =
       let known = chained.known last in
       let old = known.buckets.room in
-      let here = hash_is env mix from begin now Missed WasLast Bound seen room.items words G P whole right deaths of_ports chain m within
+      let here = hash_is env mix from begin now Missed WasLast seen room.items words G P whole right deaths of_ports chain m within
       walked
       chained.place_is m known.at known.is in
       record {
@@ -151,11 +151,10 @@ module _ (env : Env) (mix : ℕ → ℕ → ℕ → ℕ) (from : Option Cursor) 
         distinct = subst IsDistinct (sym (ports_more last)) (IsDistinct-with (ports_of room.items) key []
             (subst IsDistinct (sym (append-nil (ports_of room.items))) old.distinct)
             (not_in_from key (ports_of room.items) (at.apart last)) tt);
-        bound = subst (AllByRecursion Bound) (sym (more_is last)) (AllByRecursion-push Bound room.items pair old.bound bound);
       }
     where
       passed_on : (least n : ℕ)
-          → IsPassed env mix from begin now Missed WasLast Bound seen room.items M G P slot chain.visit.bucket j (least + 1) chained.since n
+          → IsPassed env mix from begin now Missed WasLast seen room.items M G P slot chain.visit.bucket j (least + 1) chained.since n
           → Passed least n
       passed_on least n (inl before) = inl before
       passed_on least n (inr above) = inr (record {
@@ -167,10 +166,9 @@ module _ (env : Env) (mix : ℕ → ℕ → ℕ → ℕ) (from : Option Cursor) 
       })
 
   -- with its pair kept the walk stands behind the load of the owner
-  pub kept_known : (τ + 1 ≡ G.attached → Bound pair)
-      → IsInChain env mix from begin now Missed WasLast Bound seen more M G P chain m
-      (HereAtLink env mix from begin now Missed WasLast Bound seen more M G P chain m) (λ at. at)
-  kept_known bound = record {
+  pub kept_known : IsInChain env mix from begin now Missed WasLast seen more M G P chain m
+      (HereAtLink env mix from begin now Missed WasLast seen more M G P chain m) (λ at. at)
+  kept_known = record {
     of = record { serial_is = chained.of.serial_is; fits = chained.of.fits };
     low = chained.low;
     place_is = chained.place_is;
@@ -192,14 +190,14 @@ module _ (env : Env) (mix : ℕ → ℕ → ℕ → ℕ) (from : Option Cursor) 
               | inr stage ↦ stage_more last port chained.since (AtLink slot j m (chain.visited + 1)) stage
             ];
             ahead = λ port less. stage_more last port 0 (Reaching slot) (known.buckets.ahead port less);
-            room = room_more last (bound last);
+            room = room_more last;
           };
         };
   }
     where
       stage_key : τ + 1 ≡ G.attached → (port : ℕ) → port ≡ key → first_bucket from ≤ hash_in env mix G port τ
           → hash_in env mix G port τ ≡ chain.visit.bucket
-          → HereAtLink env mix from begin now Missed WasLast Bound seen more M G P chain m chained.since port
+          → HereAtLink env mix from begin now Missed WasLast seen more M G P chain m chained.since port
       stage_key last port e low same = (
         record {
           of = walked.of;

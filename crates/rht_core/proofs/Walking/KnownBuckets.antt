@@ -2,7 +2,6 @@
 use Rattle.std.proofs.Common.{◌≡◌, ℕ, ◌+◌, ◌<◌, ◌≤◌, nat_lt, nat_le, Bool, List, [], Option, Some, None, refl, sym, ◌∙◌, ap, subst, inl, inr, arith}
 use Rattle.std.specs.Prelude.{◌==◌}
 use Rattle.std.proofs.lemmas.Bool.{cond_both, cases_eq, and_parts, eqb-true, ltb-true, ltb-false}
-use Rattle.std.specs.List.{AllByRecursion}
 use Rattle.rht_words.specs.declared.env.Env.{Env}
 use Rattle.rht_words.specs.Members.{In, IsDistinct}
 use Rattle.rht_words.specs.Shapes.{unpacked, size_of}
@@ -22,16 +21,16 @@ use Rattle.rht_core.proofs.Walking.ShownNodes.{map-In}
 use Rattle.rht_core.proofs.Walking.SlotsOfTables.{attached_at, index_is}
 use Rattle.rht_core.proofs.Walking.WalkFacts.{ports_of, EndKnown, OfTable, IsNew, IsAt, IsBehind, WalkMeans}
 
-module _ (env : Env) (mix : ℕ → ℕ → ℕ → ℕ) (from : Option Cursor) (begin now : ℕ) (Missed WasLast : ℕ → Type 0) (Bound : ℕ × ℕ → Type 0)
+module _ (env : Env) (mix : ℕ → ℕ → ℕ → ℕ) (from : Option Cursor) (begin now : ℕ) (Missed WasLast : ℕ → Type 0)
     (seen : ℕ → Bool) (items : List (ℕ × ℕ)) (M : Memory) (G : Ghost) (P : Places) (whole : Whole env mix M G) where
   abbrev Means : WalkAt → Type 0
-  Means = WalkMeans env mix from begin now Missed WasLast Bound seen items M G P
+  Means = WalkMeans env mix from begin now Missed WasLast seen items M G P
 
   abbrev At : Visit → Type 0
-  At = IsAt env mix from begin now Missed WasLast Bound seen items M G P
+  At = IsAt env mix from begin now Missed WasLast seen items M G P
 
   abbrev Behind : Visit → Type 0
-  Behind = IsBehind env mix from begin now Missed WasLast Bound seen items M G P
+  Behind = IsBehind env mix from begin now Missed WasLast seen items M G P
 
   abbrev hash : ℕ → ℕ → ℕ
   hash slot port = hash_in env mix G port (index_at G slot)
@@ -42,8 +41,8 @@ module _ (env : Env) (mix : ℕ → ℕ → ℕ → ℕ) (from : Option Cursor) 
 
   -- the first one
   first_known : (visit : Visit) → visit.bucket ≡ first_bucket from
-      → OfTable env mix from begin now Missed WasLast Bound seen items M G P visit
-      → IsNew env mix from begin now Missed WasLast Bound seen items M G P visit.table → At visit
+      → OfTable env mix from begin now Missed WasLast seen items M G P visit
+      → IsNew env mix from begin now Missed WasLast seen items M G P visit.table → At visit
   first_known visit is of new = record {
     of = of;
     low = omega (arith, is);
@@ -56,13 +55,12 @@ module _ (env : Env) (mix : ℕ → ℕ → ℕ → ℕ) (from : Option Cursor) 
         keys = ap ports_of new.none;
         each = λ n i. absurd i;
         distinct = subst (λ (xs : List (ℕ × ℕ)). IsDistinct (ports_of xs)) (sym new.none) tt;
-        bound = subst (AllByRecursion Bound) (sym new.none) tt;
       };
     };
   }
 
   pub begun_known : (table serial shape : ℕ) → (G.table (index_at G table)).serial ≡ serial
-      → IsNew env mix from begin now Missed WasLast Bound seen items M G P table
+      → IsNew env mix from begin now Missed WasLast seen items M G P table
       → Means (begun env.geometry from table serial shape)
   begun_known table serial shape is new = go from refl
     where
@@ -101,7 +99,7 @@ module _ (env : Env) (mix : ℕ → ℕ → ℕ → ℕ) (from : Option Cursor) 
 
   -- and what it has shown is known
   pub end_known : (visit : Visit) → Behind visit → index_at G visit.table + 1 ≡ G.attached
-      → EndKnown env mix G (index_at G visit.table) (first_bucket from) (visit.bucket + 1) Missed Bound items
+      → EndKnown env mix G (index_at G visit.table) (first_bucket from) (visit.bucket + 1) Missed items
   end_known visit behind last =
       let known = behind.known last in
       record {
@@ -116,7 +114,6 @@ module _ (env : Env) (mix : ℕ → ℕ → ℕ → ℕ) (from : Option Cursor) 
               subst (λ k. hash visit.table k < visit.bucket + 1) (sym of.is) is.1,
             );
         distinct = known.room.distinct;
-        bound = known.room.bound;
       }
 
   -- it ends there, or goes on

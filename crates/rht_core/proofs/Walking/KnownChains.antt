@@ -29,7 +29,7 @@ use Rattle.rht_core.proofs.Walking.SlotsOfTables.{reached, missed, none_behind}
 use Rattle.rht_core.proofs.Walking.TablesOfWalks.{walked_there, walked_number, walked_table, heading_here, heading_leads, walked_page}
 use Rattle.rht_core.proofs.Walking.WalkFacts.{ports_of, Said, StageIs, RoomKnown, IsPassed, BucketsKnown, IsAt, IsBehind, IsInChain, HereAtKey, HereAtLink, IsAtOwner}
 
-module _ (env : Env) (mix : ℕ → ℕ → ℕ → ℕ) (from : Option Cursor) (begin now : ℕ) (Missed WasLast : ℕ → Type 0) (Bound : ℕ × ℕ → Type 0)
+module _ (env : Env) (mix : ℕ → ℕ → ℕ → ℕ) (from : Option Cursor) (begin now : ℕ) (Missed WasLast : ℕ → Type 0)
     (seen : ℕ → Bool) (items : List (ℕ × ℕ)) (words : List ℕ) (G : Ghost) (P : Places) (whole : Whole env mix (mem env mix words) G)
     (right : PlacesRight env mix G P (mem env mix words) now) (deaths : DeathsRight env (mem env mix words) G P now)
     (of_ports : PortPlacesRight env mix (mem env mix words) G P now) where
@@ -37,31 +37,31 @@ module _ (env : Env) (mix : ℕ → ℕ → ℕ → ℕ) (from : Option Cursor) 
   M = mem env mix words
 
   abbrev At : Visit → Type 0
-  At = IsAt env mix from begin now Missed WasLast Bound seen items M G P
+  At = IsAt env mix from begin now Missed WasLast seen items M G P
 
   abbrev Behind : Visit → Type 0
-  Behind = IsBehind env mix from begin now Missed WasLast Bound seen items M G P
+  Behind = IsBehind env mix from begin now Missed WasLast seen items M G P
 
   abbrev Room : ℕ → (ℕ → Type 0) → Type 0
-  Room = RoomKnown env mix from begin now Missed WasLast Bound seen items M G P
+  Room = RoomKnown env mix from begin now Missed WasLast seen items M G P
 
   abbrev SaidHere : ℕ → Type 0
-  SaidHere = Said env mix from begin now Missed WasLast Bound seen items M G P
+  SaidHere = Said env mix from begin now Missed WasLast seen items M G P
 
   abbrev hash : ℕ → ℕ → ℕ
   hash slot port = hash_in env mix G port (index_at G slot)
 
   abbrev InChain : Chain → ℕ → (ℕ → ℕ → Type 0) → (ℕ → ℕ) → Type 0
-  InChain = IsInChain env mix from begin now Missed WasLast Bound seen items M G P
+  InChain = IsInChain env mix from begin now Missed WasLast seen items M G P
 
   abbrev AtKeyHere : Chain → ℕ → ℕ → ℕ → Type 0
-  AtKeyHere = HereAtKey env mix from begin now Missed WasLast Bound seen items M G P
+  AtKeyHere = HereAtKey env mix from begin now Missed WasLast seen items M G P
 
   abbrev AtLinkHere : Chain → ℕ → ℕ → ℕ → Type 0
-  AtLinkHere = HereAtLink env mix from begin now Missed WasLast Bound seen items M G P
+  AtLinkHere = HereAtLink env mix from begin now Missed WasLast seen items M G P
 
   abbrev Passed : ℕ → ℕ → ℕ → ℕ → ℕ → ℕ → Type 0
-  Passed = IsPassed env mix from begin now Missed WasLast Bound seen items M G P
+  Passed = IsPassed env mix from begin now Missed WasLast seen items M G P
 
   -- of nodes of which something is so something weaker is
   room_weaker : (slot : ℕ) (Where Where' : ℕ → Type 0) → ((n : ℕ) → Where n → Where' n) → Room slot Where → Room slot Where'
@@ -70,7 +70,6 @@ module _ (env : Env) (mix : ℕ → ℕ → ℕ → ℕ) (from : Option Cursor) 
     keys = room.keys;
     each = λ n i. let is = room.each n i in (is.0, so n is.1);
     distinct = room.distinct;
-    bound = room.bound;
   }
 
   -- ---- a bucket that is missing
@@ -230,7 +229,7 @@ module _ (env : Env) (mix : ℕ → ℕ → ℕ → ℕ) (from : Option Cursor) 
             omega (arith, same, early, from)
 
     pub key_known : (key : ℕ) → key_of M m ≡ key → seen m ≡ true → InChain chain m (AtKeyHere chain m) (λ at. at + 1)
-        → IsAtOwner env mix from begin now Missed WasLast Bound seen items M G P chain m key
+        → IsAtOwner env mix from begin now Missed WasLast seen items M G P chain m key
     key_known key is stood at = record {
       in_chain = record {
         of = at.of;
@@ -279,7 +278,7 @@ module _ (env : Env) (mix : ℕ → ℕ → ℕ → ℕ) (from : Option Cursor) 
       late = late_next env mix M G P whole now deaths at.since m n at.late leads;
       known = λ last.
           let known = at.known last in
-          let buckets : BucketsKnown env mix from begin now Missed WasLast Bound seen items M G P table chain.visit.bucket
+          let buckets : BucketsKnown env mix from begin now Missed WasLast seen items M G P table chain.visit.bucket
           (AtKeyHere (one_more chain) n at.since) (Passed table chain.visit.bucket bucket known.at at.since) =
           record {
             behind = known.buckets.behind;
@@ -322,7 +321,7 @@ module _ (env : Env) (mix : ℕ → ℕ → ℕ → ℕ) (from : Option Cursor) 
 
     -- the bucket ends there, by what the ends of look-ups tell
     ends_known : ((port since : ℕ) → AtLinkHere chain m since port
-        → StageIs env mix from begin now Missed WasLast Bound seen items M G P port since (Ending table))
+        → StageIs env mix from begin now Missed WasLast seen items M G P port since (Ending table))
         → InChain chain m (AtLinkHere chain m) (λ at. at) → Behind chain.visit
     ends_known end at = record {
       of = at.of;

@@ -6,7 +6,7 @@ use Rattle.rht_words.proofs.EachElement.{AllByRecursion-weaker}
 use Rattle.rht_model.specs.declared.history.Cursor.{Cursor}
 use Rattle.rht_core.specs.declared.event.Event.{Event}
 use Rattle.rht_core.specs.Runs.{IsAdmitted}
-use Rattle.rht_core.specs.Shown.{AreWalks, AreAmong, AreFewMade, ShowsRightly, Shown, ShowsLoaded, ShownWhole, pairs_of, ends_behind}
+use Rattle.rht_core.specs.Shown.{AreWalks, AreAmong, AreFewMade, ShowsRightly, Shown, ShowsLoaded, ShownWhole, ShowsBound, ShownBound, pairs_of, ends_behind}
 use Rattle.rht_core.specs.Traces.{Past, traced_of, behind_call}
 use Rattle.rht_core.proofs.Tracing.TracesAtEvents.{at_events}
 use Rattle.rht_core.proofs.Walking.FullWalks.{AreApart, among-apart, among-all, AllShown, calls_shown}
@@ -61,4 +61,13 @@ shown L mix env events c first pasts admitted few full among = shows L mix env e
 pub shown_whole : (L : Type 0) (mix : ℕ → ℕ → ℕ → ℕ) → ShownWhole L mix
 shown_whole L mix env events c admitted =
     AllByRecursion-weaker _ (ShowsLoaded env) (λ past had from limit len next call reply. (had from limit len next call reply).whole) _
+    ((has_walks L mix env events admitted).walks c).past
+
+-- and ports with first owners that they had meanwhile
+pub shown_bound : (L : Type 0) (mix : ℕ → ℕ → ℕ → ℕ) → ShownBound L mix
+shown_bound L mix env events c admitted =
+    AllByRecursion-weaker _ (ShowsBound L mix env events)
+    (λ past had from limit len next call reply.
+    AllByRecursion-weaker _ _ (λ pair is. (is.at, is.rest, is.begun, is.before, is.is)) past.done.pairs
+    (had from limit len next call reply).bound) _
     ((has_walks L mix env events admitted).walks c).past

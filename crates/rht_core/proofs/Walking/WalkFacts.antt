@@ -2,7 +2,6 @@
 -- shown, and which it may come to still. All of it but that nodes were first ones late, and the key of one, is said where no table is behind
 -- the walked one.
 use Rattle.std.proofs.Common.{◌≡◌, ◌⊎◌, ℕ, ◌+◌, ◌<◌, ◌≤◌, Bool, true, List, [], map, Option, Some, None, ◌/◌}
-use Rattle.std.specs.List.{AllByRecursion}
 use Rattle.rht_words.specs.declared.env.Env.{Env}
 use Rattle.rht_words.specs.Members.{In, IsDistinct}
 use Rattle.rht_words.proofs.Memory.{Memory}
@@ -32,12 +31,10 @@ SaidOf Missed items port = Missed port ⊎ In port (ports_of items)
 module _ (env : Env) (mix : ℕ → ℕ → ℕ → ℕ) where
   -- where the table of this number is the last one: each port of its buckets from the first one on was bound nowhere meanwhile or is
   -- shown; the ports that are shown are of these buckets; and each is shown once
-  pub record EndKnown (G : Ghost) (τ first upto : ℕ) (Missed : ℕ → Type 0) (Bound : ℕ × ℕ → Type 0) (items : List (ℕ × ℕ)) :
-      Type 0 where
+  pub record EndKnown (G : Ghost) (τ first upto : ℕ) (Missed : ℕ → Type 0) (items : List (ℕ × ℕ)) : Type 0 where
     pub shown : (port : ℕ) → first ≤ hash_in env mix G port τ → hash_in env mix G port τ < upto → SaidOf Missed items port
     pub within : (port : ℕ) → In port (ports_of items) → (first ≤ hash_in env mix G port τ) × (hash_in env mix G port τ < upto)
     pub distinct : IsDistinct (ports_of items)
-    pub bound : AllByRecursion Bound items
 
   -- It has a cursor of the table's serial to the bucket up to which it came; what it shows is known where no table was behind, of so many
   -- that were attached. Or it has come to the end, behind which no table was.
@@ -46,9 +43,8 @@ module _ (env : Env) (mix : ℕ → ℕ → ℕ → ℕ) where
   EndsAt G all WasLast Known τ serial upto (Some cursor) = (cursor.serial ≡ serial) × (cursor.bucket ≡ upto) × (τ + 1 ≡ all → Known)
 
   -- the table that was walked, where the walk doesn't have to begin anew
-  pub record HasWalkedTo (G : Ghost) (all : ℕ) (from : Option Cursor) (Missed WasLast : ℕ → Type 0) (Bound : ℕ × ℕ → Type 0)
-      (items : List (ℕ × ℕ))
-      (next : Option Cursor) : Type 0 where
+  pub record HasWalkedTo (G : Ghost) (all : ℕ) (from : Option Cursor) (Missed WasLast : ℕ → Type 0)
+      (items : List (ℕ × ℕ)) (next : Option Cursor) : Type 0 where
     pub table : ℕ
     pub serial : ℕ
     pub shape : ℕ
@@ -57,9 +53,9 @@ module _ (env : Env) (mix : ℕ → ℕ → ℕ → ℕ) where
     pub attached : table < all
     pub serial_is : (G.table table).serial ≡ serial
     pub fits : Fits serial shape from
-    pub ends : EndsAt G all WasLast (EndKnown G table (first_bucket from) upto Missed Bound items) table serial upto next
+    pub ends : EndsAt G all WasLast (EndKnown G table (first_bucket from) upto Missed items) table serial upto next
 
-  module _ (from : Option Cursor) (begin now : ℕ) (Missed WasLast : ℕ → Type 0) (Bound : ℕ × ℕ → Type 0) (seen : ℕ → Bool)
+  module _ (from : Option Cursor) (begin now : ℕ) (Missed WasLast : ℕ → Type 0) (seen : ℕ → Bool)
       (items : List (ℕ × ℕ)) (M : Memory) (G : Ghost) (P : Places) where
     abbrev pub first : ℕ
     first = first_bucket from
@@ -92,7 +88,6 @@ module _ (env : Env) (mix : ℕ → ℕ → ℕ → ℕ) where
       pub keys : ports_of items ≡ map (key_of M) nodes
       pub each : (n : ℕ) → In n nodes → IsShown slot n × Where n
       pub distinct : IsDistinct (ports_of items)
-      pub bound : AllByRecursion Bound items
 
     -- the node's port is of an earlier bucket than this one
     abbrev pub IsBefore : ℕ → ℕ → ℕ → Type 0
@@ -183,7 +178,7 @@ module _ (env : Env) (mix : ℕ → ℕ → ℕ → ℕ) where
       pub behind : IsBehind visit
 
     abbrev pub EndMeans : WalkEnd → Type 0
-    EndMeans (ends.Walked next) = HasWalkedTo G G.attached from Missed WasLast Bound items next
+    EndMeans (ends.Walked next) = HasWalkedTo G G.attached from Missed WasLast items next
     EndMeans (ends.Again table) = Unit {0}
 
     abbrev pub WalkMeans : WalkAt → Type 0

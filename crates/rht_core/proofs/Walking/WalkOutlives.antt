@@ -4,7 +4,6 @@ use Rattle.std.specs.List.{AllByRecursion}
 use Rattle.rht_words.specs.declared.env.Env.{Env}
 use Rattle.rht_words.specs.Members.{In}
 use Rattle.rht_words.specs.Standing.{Standing, stands_nowhere}
-use Rattle.rht_words.proofs.EachElement.{AllByRecursion-weaker}
 use Rattle.rht_words.proofs.Memory.{Memory}
 use Rattle.rht_model.specs.declared.history.Cursor.{Cursor}
 use Rattle.rht_walk.specs.WalkLaws.{first_bucket}
@@ -30,9 +29,8 @@ use Rattle.rht_core.proofs.Walking.ShownNodes.{map-agree}
 use Rattle.rht_core.proofs.Walking.WalkFacts.{SaidOf, EndKnown, EndsAt, HasWalkedTo, RoomKnown, IsPassed, BucketsKnown, OfTable, IsNew, IsAt, IsBehind, IsInChain, HereAtKey, HereAtLink, IsAtOwner, IsAtEnd, WalkMeans}
 use Rattle.rht_core.proofs.Walking.SlotsOfTables.{IsAttached, index_is, index_stays, attached_stays, attached_at, at_attached}
 
-module _ (env : Env) (mix : ℕ → ℕ → ℕ → ℕ) (from : Option Cursor) (begin now : ℕ) (Missed WasLast : ℕ → Type 0) (Bound : ℕ × ℕ → Type 0)
-    (Missed' WasLast' : ℕ → Type 0) (Bound' : ℕ × ℕ → Type 0) (missed : (port : ℕ) → Missed port → Missed' port)
-    (was_last : (τ : ℕ) → WasLast τ → WasLast' τ) (bound : (pair : ℕ × ℕ) → Bound pair → Bound' pair)
+module _ (env : Env) (mix : ℕ → ℕ → ℕ → ℕ) (from : Option Cursor) (begin now : ℕ) (Missed WasLast : ℕ → Type 0)
+    (Missed' WasLast' : ℕ → Type 0) (missed : (port : ℕ) → Missed port → Missed' port) (was_last : (τ : ℕ) → WasLast τ → WasLast' τ)
     (items : List (ℕ × ℕ)) (M : Memory) (G : Ghost) (P : Places) (whole : Whole env mix M G)
     (M' : Memory) (G' : Ghost) (base : ℕ) (grow : GrowsFrom env mix base G G') where
   -- ---- tables
@@ -72,8 +70,8 @@ module _ (env : Env) (mix : ℕ → ℕ → ℕ → ℕ) (from : Option Cursor) 
 
   -- ---- a walk that has come to its end
 
-  known_still : (τ first upto : ℕ) → τ < G.attached → EndKnown env mix G τ first upto Missed Bound items
-      → EndKnown env mix G' τ first upto Missed' Bound' items
+  known_still : (τ first upto : ℕ) → τ < G.attached → EndKnown env mix G τ first upto Missed items
+      → EndKnown env mix G' τ first upto Missed' items
   known_still τ first upto low known =
       let same : (port : ℕ) → hash_in env mix G' port τ ≡ hash_in env mix G port τ = λ port. hash-from env mix base G G' grow port τ low in
       record {
@@ -83,12 +81,11 @@ module _ (env : Env) (mix : ℕ → ℕ → ℕ → ℕ) (from : Option Cursor) 
             let is = known.within port there in
             (subst (λ h. first ≤ h) (sym (same port)) is.0, subst (λ h. h < upto) (sym (same port)) is.1);
         distinct = known.distinct;
-        bound = AllByRecursion-weaker Bound Bound' bound items known.bound;
       }
 
   ends_still : (τ serial upto all all' : ℕ) → τ < all → all ≤ G.attached → all ≤ all' → (next : Option Cursor)
-      → EndsAt env mix G all WasLast (EndKnown env mix G τ (first_bucket from) upto Missed Bound items) τ serial upto next
-      → EndsAt env mix G' all' WasLast' (EndKnown env mix G' τ (first_bucket from) upto Missed' Bound' items) τ serial upto next
+      → EndsAt env mix G all WasLast (EndKnown env mix G τ (first_bucket from) upto Missed items) τ serial upto next
+      → EndsAt env mix G' all' WasLast' (EndKnown env mix G' τ (first_bucket from) upto Missed' items) τ serial upto next
   ends_still τ serial upto all all' low few more None is =
       let below : τ < G.attached = omega (arith, low, few) in (
         was_last τ is.0,
@@ -103,8 +100,8 @@ module _ (env : Env) (mix : ℕ → ℕ → ℕ → ℕ) (from : Option Cursor) 
 
   -- of which so many tables were attached, or more by now
   pub walked_still : (all all' : ℕ) → all ≤ G.attached → all ≤ all' → (next : Option Cursor)
-      → HasWalkedTo env mix G all from Missed WasLast Bound items next
-      → HasWalkedTo env mix G' all' from Missed' WasLast' Bound' items next
+      → HasWalkedTo env mix G all from Missed WasLast items next
+      → HasWalkedTo env mix G' all' from Missed' WasLast' items next
   walked_still all all' few more next walked =
       let below = walked.attached in
       let low : walked.table < G.attached = omega (arith, below, few) in
@@ -127,10 +124,10 @@ module _ (env : Env) (mix : ℕ → ℕ → ℕ → ℕ) (from : Option Cursor) 
       (absent : (port : ℕ) → G'.bound port ≡ [] → Missed' port)
       (seen seen' : ℕ → Bool) (seen_met : (n : ℕ) → seen n ≡ true → met n ≡ true) where
     abbrev Before : WalkAt → Type 0
-    Before = WalkMeans env mix from begin now Missed WasLast Bound seen items M G P
+    Before = WalkMeans env mix from begin now Missed WasLast seen items M G P
 
     abbrev Then : WalkAt → Type 0
-    Then = WalkMeans env mix from begin now' Missed' WasLast' Bound' seen' items M' G' P'
+    Then = WalkMeans env mix from begin now' Missed' WasLast' seen' items M' G' P'
 
     end_still : (end : WalkEnd) → Before (at.Closing end) → Then (at.Closing end)
     end_still (ends.Walked next) walked = walked_still G.attached G'.attached (omega arith) grow.attached next walked
@@ -154,8 +151,8 @@ module _ (env : Env) (mix : ℕ → ℕ → ℕ → ℕ) (from : Option Cursor) 
 
       room_then : (slot : ℕ) → IsKept slot → (Where Where' : ℕ → Type 0)
           → ((n : ℕ) → seen n ≡ true → key_of M' n ≡ key_of M n → Where n → Where' n)
-          → RoomKnown env mix from begin now Missed WasLast Bound seen items M G P slot Where
-          → RoomKnown env mix from begin now' Missed' WasLast' Bound' seen' items M' G' P' slot Where'
+          → RoomKnown env mix from begin now Missed WasLast seen items M G P slot Where
+          → RoomKnown env mix from begin now' Missed' WasLast' seen' items M' G' P' slot Where'
       room_then slot of Where Where' so room =
           let key : (n : ℕ) → In n room.nodes → key_of M' n ≡ key_of M n = λ n i.
           let is = (room.each n i).0 in (node_then 0 n (omega arith) is.met is.late).1 in
@@ -174,7 +171,6 @@ module _ (env : Env) (mix : ℕ → ℕ → ℕ → ℕ) (from : Option Cursor) 
                   so n is.0.met (key n i) is.1,
                 );
             distinct = room.distinct;
-            bound = AllByRecursion-weaker Bound Bound' bound items room.bound;
           }
 
       -- the number of the bucket of a node's port is the same
@@ -187,8 +183,8 @@ module _ (env : Env) (mix : ℕ → ℕ → ℕ → ℕ) (from : Option Cursor) 
       before_then slot b of n is key less = subst (λ h. h < b) (sym (node_number slot n of key)) less
 
       passed_then : (slot b j least since : ℕ) → IsKept slot → base ≤ table_at G j → (n : ℕ) → seen n ≡ true → key_of M' n ≡ key_of M n
-          → IsPassed env mix from begin now Missed WasLast Bound seen items M G P slot b j least since n
-          → IsPassed env mix from begin now' Missed' WasLast' Bound' seen' items M' G' P' slot b j least since n
+          → IsPassed env mix from begin now Missed WasLast seen items M G P slot b j least since n
+          → IsPassed env mix from begin now' Missed' WasLast' seen' items M' G' P' slot b j least since n
       passed_then slot b j least since of from_base n is key (inl before) = inl (before_then slot b of n is key before)
       passed_then slot b j least since of from_base n is key (inr above) = inr (record {
         here = node_number slot n of key ∙ above.here;
@@ -200,8 +196,8 @@ module _ (env : Env) (mix : ℕ → ℕ → ℕ → ℕ) (from : Option Cursor) 
 
       buckets_then : (slot b : ℕ) → IsKept slot → (Here Here' Where Where' : ℕ → Type 0) → ((port : ℕ) → Here port → Here' port)
           → ((n : ℕ) → seen n ≡ true → key_of M' n ≡ key_of M n → Where n → Where' n)
-          → BucketsKnown env mix from begin now Missed WasLast Bound seen items M G P slot b Here Where
-          → BucketsKnown env mix from begin now' Missed' WasLast' Bound' seen' items M' G' P' slot b Here' Where'
+          → BucketsKnown env mix from begin now Missed WasLast seen items M G P slot b Here Where
+          → BucketsKnown env mix from begin now' Missed' WasLast' seen' items M' G' P' slot b Here' Where'
       buckets_then slot b of Here Here' Where Where' here where_then known = record {
         behind = λ port low less. said port (known.behind port (subst (λ h. first_bucket from ≤ h) (number_same slot of port) low)
             (subst (λ h. h < b) (number_same slot of port) less));
@@ -213,23 +209,23 @@ module _ (env : Env) (mix : ℕ → ℕ → ℕ → ℕ) (from : Option Cursor) 
       }
 
       table_then : (visit : Visit) → IsKept visit.table
-          → OfTable env mix from begin now Missed WasLast Bound seen items M G P visit
-          → OfTable env mix from begin now' Missed' WasLast' Bound' seen' items M' G' P' visit
+          → OfTable env mix from begin now Missed WasLast seen items M G P visit
+          → OfTable env mix from begin now' Missed' WasLast' seen' items M' G' P' visit
       table_then visit attached of = record {
         serial_is = ap (λ τ. (G'.table τ).serial) (index_still visit.table attached)
             ∙ (grow.tables (index_at G visit.table) attached.has.attached).serial ∙ of.serial_is;
         fits = of.fits;
       }
 
-      new_then : (slot : ℕ) → IsKept slot → IsNew env mix from begin now Missed WasLast Bound seen items M G P slot
-          → IsNew env mix from begin now' Missed' WasLast' Bound' seen' items M' G' P' slot
+      new_then : (slot : ℕ) → IsKept slot → IsNew env mix from begin now Missed WasLast seen items M G P slot
+          → IsNew env mix from begin now' Missed' WasLast' seen' items M' G' P' slot
       new_then slot attached new = record {
         none = new.none;
         ahead = λ port. stage_then port 0 (omega arith) (Reaching slot) tt (only_from slot attached) (new.ahead port);
       }
 
-      at_then : (visit : Visit) → IsKept visit.table → IsAt env mix from begin now Missed WasLast Bound seen items M G P visit
-          → IsAt env mix from begin now' Missed' WasLast' Bound' seen' items M' G' P' visit
+      at_then : (visit : Visit) → IsKept visit.table → IsAt env mix from begin now Missed WasLast seen items M G P visit
+          → IsAt env mix from begin now' Missed' WasLast' seen' items M' G' P' visit
       at_then visit attached at = record {
         of = table_then visit attached at.of;
         low = at.low;
@@ -239,8 +235,8 @@ module _ (env : Env) (mix : ℕ → ℕ → ℕ → ℕ) (from : Option Cursor) 
             (at.known (slot_last visit.table attached last));
       }
 
-      behind_then : (visit : Visit) → IsKept visit.table → IsBehind env mix from begin now Missed WasLast Bound seen items M G P visit
-          → IsBehind env mix from begin now' Missed' WasLast' Bound' seen' items M' G' P' visit
+      behind_then : (visit : Visit) → IsKept visit.table → IsBehind env mix from begin now Missed WasLast seen items M G P visit
+          → IsBehind env mix from begin now' Missed' WasLast' seen' items M' G' P' visit
       behind_then visit attached behind = record {
         of = table_then visit attached behind.of;
         low = behind.low;
@@ -250,8 +246,8 @@ module _ (env : Env) (mix : ℕ → ℕ → ℕ → ℕ) (from : Option Cursor) 
 
       chain_then : (chain : Chain) (m : ℕ) (Here Here' : ℕ → ℕ → Type 0) (least : ℕ → ℕ) → IsKept chain.visit.table → seen m ≡ true
           → ((since port : ℕ) → since ≤ now → Here since port → Here' since port)
-          → IsInChain env mix from begin now Missed WasLast Bound seen items M G P chain m Here least
-          → IsInChain env mix from begin now' Missed' WasLast' Bound' seen' items M' G' P' chain m Here' least
+          → IsInChain env mix from begin now Missed WasLast seen items M G P chain m Here least
+          → IsInChain env mix from begin now' Missed' WasLast' seen' items M' G' P' chain m Here' least
       chain_then chain m Here Here' least attached stood here at = record {
         of = table_then chain.visit attached at.of;
         low = at.low;
@@ -280,22 +276,22 @@ module _ (env : Env) (mix : ℕ → ℕ → ℕ → ℕ) (from : Option Cursor) 
       }
 
       key_then : (chain : Chain) (m since port : ℕ) → IsKept chain.visit.table → seen m ≡ true → since ≤ now
-          → HereAtKey env mix from begin now Missed WasLast Bound seen items M G P chain m since port
-          → HereAtKey env mix from begin now' Missed' WasLast' Bound' seen' items M' G' P' chain m since port
+          → HereAtKey env mix from begin now Missed WasLast seen items M G P chain m since port
+          → HereAtKey env mix from begin now' Missed' WasLast' seen' items M' G' P' chain m since port
       key_then chain m since port attached stood began stage =
           stage_then port since began (AtKey chain.visit.table (word_index env mix chain.place) m chain.visited) (stood, tt)
           (only_from chain.visit.table attached) stage
 
       link_then : (chain : Chain) (m since port : ℕ) → IsKept chain.visit.table → seen m ≡ true → since ≤ now
-          → HereAtLink env mix from begin now Missed WasLast Bound seen items M G P chain m since port
-          → HereAtLink env mix from begin now' Missed' WasLast' Bound' seen' items M' G' P' chain m since port
+          → HereAtLink env mix from begin now Missed WasLast seen items M G P chain m since port
+          → HereAtLink env mix from begin now' Missed' WasLast' seen' items M' G' P' chain m since port
       link_then chain m since port attached stood began stage =
           stage_then port since began (AtLink chain.visit.table (word_index env mix chain.place) m (chain.visited + 1)) (stood, tt)
           (only_from chain.visit.table attached) stage
 
       owner_then : (chain : Chain) (m key : ℕ) → IsKept chain.visit.table → seen m ≡ true
-          → IsAtOwner env mix from begin now Missed WasLast Bound seen items M G P chain m key
-          → IsAtOwner env mix from begin now' Missed' WasLast' Bound' seen' items M' G' P' chain m key
+          → IsAtOwner env mix from begin now Missed WasLast seen items M G P chain m key
+          → IsAtOwner env mix from begin now' Missed' WasLast' seen' items M' G' P' chain m key
       owner_then chain m key attached stood owner = record {
         in_chain = chain_then chain m _ _ _ attached stood (λ since port began. either since port began) owner.in_chain;
         is = (node_then owner.in_chain.since m owner.in_chain.so_far stood owner.in_chain.late).1 ∙ owner.is;
@@ -303,13 +299,13 @@ module _ (env : Env) (mix : ℕ → ℕ → ℕ → ℕ) (from : Option Cursor) 
       }
         where
           either : (since port : ℕ) → since ≤ now
-              → (port ≡ key) ⊎ HereAtLink env mix from begin now Missed WasLast Bound seen items M G P chain m since port
-              → (port ≡ key) ⊎ HereAtLink env mix from begin now' Missed' WasLast' Bound' seen' items M' G' P' chain m since port
+              → (port ≡ key) ⊎ HereAtLink env mix from begin now Missed WasLast seen items M G P chain m since port
+              → (port ≡ key) ⊎ HereAtLink env mix from begin now' Missed' WasLast' seen' items M' G' P' chain m since port
           either since port began (inl e) = inl e
           either since port began (inr stage) = inr (link_then chain m since port attached stood began stage)
 
-      at_end_then : (slot : ℕ) → AreFrom base G (slot ∷ []) → IsAtEnd env mix from begin now Missed WasLast Bound seen items M G P slot
-          → IsAtEnd env mix from begin now' Missed' WasLast' Bound' seen' items M' G' P' slot
+      at_end_then : (slot : ℕ) → AreFrom base G (slot ∷ []) → IsAtEnd env mix from begin now Missed WasLast seen items M G P slot
+          → IsAtEnd env mix from begin now' Missed' WasLast' seen' items M' G' P' slot
       at_end_then slot from_base end =
           let kept_end : IsKept slot = record {
             has = end.of;

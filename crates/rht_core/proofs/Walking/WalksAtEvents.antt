@@ -7,6 +7,7 @@ use Rattle.std.proofs.lemmas.List.{length_push}
 use Rattle.rht_words.specs.declared.env.Env.{Env}
 use Rattle.rht_words.specs.Operations.{old_of}
 use Rattle.rht_words.specs.Standing.{Standing, stands_nowhere}
+use Rattle.rht_words.proofs.EachElement.{AllByRecursion-weaker}
 use Rattle.rht_words.proofs.Memory.{Memory}
 use Rattle.rht_model.specs.declared.history.Call.{Call}
 use Rattle.rht_model.specs.declared.history.Call.TheVariants as calls
@@ -18,6 +19,7 @@ use Rattle.rht_stands.specs.StandsFor.{stands_for}
 use Rattle.rht_walk.specs.Walk.{Pairs, plan_at, goes, room_after, IsWalkAtIn}
 use Rattle.rht_walk.specs.WalkStanding.{standing_of_walk}
 use Rattle.rht_walk.specs.declared.walk.WalkAt.{WalkAt}
+use Rattle.rht_walk.specs.declared.walk.WalkAt.TheVariants as at
 use Rattle.rht_core.specs.declared.event.Event.{Event}
 use Rattle.rht_core.specs.Alone.{bindings_at}
 use Rattle.rht_core.specs.Jobs.{Job, walks, job_of}
@@ -27,7 +29,7 @@ use Rattle.rht_core.specs.Runs.{Core, local_of, world_step}
 use Rattle.rht_core.specs.Standings.{standing, standing_with}
 use Rattle.rht_core.specs.Traces.{Past, Trace, Traced, traced_of, behind_call}
 use Rattle.rht_ghost.proofs.Theory.Frames.{same_grow, same_tables}
-use Rattle.rht_ghost.proofs.Theory.Wholes.{AreFrom}
+use Rattle.rht_ghost.proofs.Theory.Wholes.{AreFrom, word_index}
 use Rattle.rht_ghost.proofs.Theory.Ghosts.{Ghost}
 use Rattle.rht_ghost.proofs.Theory.Passed.{GrowsFrom, grows_from}
 use Rattle.rht_ghost.proofs.Theory.Reliance.{TablesStay}
@@ -47,7 +49,7 @@ use Rattle.rht_core.proofs.Walking.WalkFacts.{HasWalkedTo, WalkMeans}
 use Rattle.rht_core.proofs.Walking.OwnersKept.{owners_of, KeepsOwners}
 use Rattle.rht_core.proofs.Walking.OwnersLead.{loaded_after, owners_lead}
 use Rattle.rht_core.proofs.Walking.OwnersOutlive.{owners_outlive}
-use Rattle.rht_core.proofs.Walking.WalkLeads.{Learns, walk_leads}
+use Rattle.rht_core.proofs.Walking.WalkLeads.{Learns, HasSmallKey, walk_leads, bound_leads}
 use Rattle.rht_core.proofs.Walking.WalkOutlives.{walk_outlives}
 
 -- the cursor of a reply that says the number of pairs
@@ -77,15 +79,16 @@ module _ (L : Type 0) (mix : ℕ → ℕ → ℕ → ℕ) (env : Env) where
     pub at_end : count now ≡ G.attached
     pub rises : (i k : ℕ) → i ≤ k → k ≤ now → count i ≤ count k
 
-  -- A walk that began there and has loaded these owners knows what it needs, and shows them.
+  -- A walk that began there and has loaded these owners knows what it needs, and shows them; and each pair that it shows was bound meanwhile.
   pub record Walks (events : List Event) (core : Core L) (placed : Placed env mix L events core) (count : ℕ → ℕ) (seen : ℕ → Bool) (c : ℕ)
       (from : Option Cursor) (begin : ℕ) (loaded : List ℕ) (room : Pairs) (state : WalkAt) : Type 0 where
     pub low : c < env.geometry.callers
     pub begun : begin < length events
     pub roomy : room.limit ≡ env.geometry.nodes
-    pub known : WalkMeans env mix from begin (length events) (MissedOf events c begin) (WasLast count begin (length events))
-        (BoundOf events c begin) seen room.items (mem env mix core.words) placed.ghost placed.places state
+    pub known : WalkMeans env mix from begin (length events) (MissedOf events c begin) (WasLast count begin (length events)) seen room.items
+        (mem env mix core.words) placed.ghost placed.places state
     pub keeps : KeepsOwners env mix seen room.items loaded placed.ghost placed.places state
+    pub bound : AllByRecursion (BoundOf events c begin) room.items
 
   -- ---- one that has ended
 
@@ -108,7 +111,8 @@ module _ (L : Type 0) (mix : ℕ → ℕ → ℕ → ℕ) (env : Env) where
       Type 0 where
     pub done_by : behind_call past ≤ length events
     pub walked : HasWalkedTo env mix G (count (behind_call past)) from (IsMissedIn events past.begin (behind_call past))
-        (WasLast count past.begin (behind_call past)) (IsBoundIn events past.begin (behind_call past)) past.done.pairs next
+        (WasLast count past.begin (behind_call past)) past.done.pairs next
+    pub bound : AllByRecursion (IsBoundIn events past.begin (behind_call past)) past.done.pairs
     pub whole : owners_of past.done.pairs ≡ owners_loaded env.geometry past.steps
 
   abbrev pub PastWalks : List Event → Ghost → (ℕ → ℕ) → Past → Type 0
@@ -246,8 +250,12 @@ module _ (L : Type 0) (mix : ℕ → ℕ → ℕ → ℕ) (env : Env) where
     pub missed_later : (c begin port : ℕ) → MissedOf events c begin port → MissedOf more c begin port
     missed_later c begin port said = said-more L mix env events event c (calls.Find port) begin (plain Missing) said
 
-    pub bound_later : (c begin : ℕ) (pair : ℕ × ℕ) → BoundOf events c begin pair → BoundOf more c begin pair
+    bound_later : (c begin : ℕ) (pair : ℕ × ℕ) → BoundOf events c begin pair → BoundOf more c begin pair
     bound_later c begin pair said = said-more L mix env events event c (calls.Find pair.0) begin (plain (Found pair.1)) said
+
+    pub bounds_later : (c begin : ℕ) (items : List (ℕ × ℕ)) → AllByRecursion (BoundOf events c begin) items
+        → AllByRecursion (BoundOf more c begin) items
+    bounds_later c begin items each = AllByRecursion-weaker _ _ (bound_later c begin) items each
 
     pub last_later : (begin behind τ : ℕ) → behind ≤ now → (behind' : ℕ) → behind ≤ behind' → WasLast count begin behind τ
         → WasLast count' begin behind' τ
@@ -265,8 +273,8 @@ module _ (L : Type 0) (mix : ℕ → ℕ → ℕ → ℕ) (env : Env) where
       seen = (looking.readers c).chains
 
       -- by pairs, and what is known of each port, before the event
-      abbrev Knows : List (ℕ × ℕ) → (ℕ → Type 0) → (ℕ → Type 0) → (ℕ × ℕ → Type 0) → WalkAt → Type 0
-      Knows items Missed Was Bound state = WalkMeans env mix from begin now Missed Was Bound seen items M G placed.places state
+      abbrev Knows : List (ℕ × ℕ) → (ℕ → Type 0) → (ℕ → Type 0) → WalkAt → Type 0
+      Knows items Missed Was state = WalkMeans env mix from begin now Missed Was seen items M G placed.places state
 
       abbrev Keeps : List (ℕ × ℕ) → List ℕ → WalkAt → Type 0
       Keeps items loaded state = KeepsOwners env mix seen items loaded G placed.places state
@@ -279,14 +287,13 @@ module _ (L : Type 0) (mix : ℕ → ℕ → ℕ → ℕ) (env : Env) where
       -- it outlives the event
       pub outlives : (room : Pairs) → room.limit ≡ env.geometry.nodes → (limit : ℕ) (state : WalkAt)
           → job_of (local_of core' c).doing ≡ Some (walks from limit room state) → tied_of_walk env mix G state
-          → (Missed Was : ℕ → Type 0) (Bound : ℕ × ℕ → Type 0)
-          → ((port : ℕ) → Missed port → MissedOf more c begin port)
+          → (Missed Was : ℕ → Type 0) → ((port : ℕ) → Missed port → MissedOf more c begin port)
           → ((τ : ℕ) → Was τ → WasLast count' begin (length more) τ)
-          → ((pair : ℕ × ℕ) → Bound pair → BoundOf more c begin pair)
-          → Knows room.items Missed Was Bound state → (loaded : List ℕ) → Keeps room.items loaded state
+          → Knows room.items Missed Was state → (loaded : List ℕ) → Keeps room.items loaded state
+          → AllByRecursion (BoundOf more c begin) room.items
           → Walks more core' (placed' L mix env events event looking turn) count' (turn.then c) c from begin loaded room state
       unfolding next
-      outlives room roomy limit state does tied Missed Was Bound missed was bound known loaded keeps =
+      outlives room roomy limit state does tied Missed Was missed was known loaded keeps bound =
           let see = turn.sees c low in
           let is : standing core' c ≡ standing_of_walk state = ap standing_with does in
           let stood = subst (λ at. AllByRecursion (λ n. seen n ≡ true) at.nodes) is see.stands in
@@ -296,14 +303,15 @@ module _ (L : Type 0) (mix : ℕ → ℕ → ℕ → ℕ) (env : Env) where
             low = low;
             begun = omega (arith, longer, begun);
             roomy = roomy;
-            known = walk_outlives env mix from begin now Missed Was Bound (MissedOf more c begin) (WasLast count' begin (length more))
-                (BoundOf more c begin) missed was bound room.items M G placed.places
+            known = walk_outlives env mix from begin now Missed Was (MissedOf more c begin) (WasLast count' begin (length more)) missed was
+                room.items M G placed.places
                 placed.inv.whole M' G' tables.low tables.grow (met_now L mix env looking) then_places.places
                 then_places.stages then_places.kept (length more) (omega (arith, longer)) absent_then seen (turn.then c) see.met_too state
                 tied stood from_low turns known;
             keeps = owners_outlive env mix room.items loaded M G placed.places placed.inv.whole tables.low G' tables.grow
                 (met_now L mix env looking) then_places.places then_places.kept seen (turn.then c) see.met_too state tied stood from_low
                 turns keeps;
+            bound = bound;
           }
 
       -- what is known by the events so far is known by those with this one
@@ -315,12 +323,12 @@ module _ (L : Type 0) (mix : ℕ → ℕ → ℕ → ℕ) (env : Env) where
 
       pub by_more : (items : List (ℕ × ℕ)) (state : WalkAt) → tied_of_walk env mix G state
           → AllByRecursion (λ n. seen n ≡ true) (standing_of_walk state).nodes
-          → Knows items (MissedOf events c begin) (WasLast count begin now) (BoundOf events c begin) state
-          → Knows items (MissedOf more c begin) (WasLast count' begin (length more)) (BoundOf more c begin) state
+          → Knows items (MissedOf events c begin) (WasLast count begin now) state
+          → Knows items (MissedOf more c begin) (WasLast count' begin (length more)) state
       by_more items state tied stood known =
-          walk_outlives env mix from begin now (MissedOf events c begin) (WasLast count begin now) (BoundOf events c begin)
-          (MissedOf more c begin) (WasLast count' begin (length more)) (BoundOf more c begin) (missed_later c begin)
-          (λ τ. last_later begin now τ (omega arith) (length more) (omega (arith, longer))) (bound_later c begin) items M G
+          walk_outlives env mix from begin now (MissedOf events c begin) (WasLast count begin now)
+          (MissedOf more c begin) (WasLast count' begin (length more)) (missed_later c begin)
+          (λ τ. last_later begin now τ (omega arith) (length more) (omega (arith, longer))) items M G
           placed.places placed.inv.whole M G 0 same_tables_grow seen placed.places
           (λ port seen since began Said Said' said absent seen_met stage stood from_low known.
           stage_said env mix port seen since Said Said' said M G placed.places stage known)
@@ -328,9 +336,8 @@ module _ (L : Type 0) (mix : ℕ → ℕ → ℕ → ℕ) (env : Env) where
           (λ slot there at. omega arith) (inr (λ n is. is)) known
 
       -- what it learns by its own operation
-      learns : Learns env mix from begin now (MissedOf more c begin) (WasLast count' begin (length more)) (BoundOf more c begin) seen
-          core.words G
-          placed.places placed.inv.whole placed.right placed.deaths of_ports
+      learns : Learns env mix from begin now (MissedOf more c begin) (WasLast count' begin (length more)) seen core.words G placed.places
+          placed.inv.whole placed.right placed.deaths of_ports
       learns = record {
         began = omega (arith, begun);
         absent = missed_now;
@@ -340,8 +347,6 @@ module _ (L : Type 0) (mix : ℕ → ℕ → ℕ → ℕ) (env : Env) where
           before = omega (arith, longer);
           last = last ∙ sym counted.at_end ∙ sym (count_old now (omega arith));
         };
-        found = λ n port late key.
-            found_said env mix L events event core stands placed c port begin begun n key late;
       }
 
       -- its own operation leads on
@@ -360,12 +365,31 @@ module _ (L : Type 0) (mix : ℕ → ℕ → ℕ → ℕ) (env : Env) where
         stood : AllByRecursion (λ n. seen n ≡ true) (standing_of_walk state).nodes
         stood = subst (λ at. AllByRecursion (λ n. seen n ≡ true) at.nodes) (ap standing_with is) (turn.sees c low).stood
 
-        known_next : Knows after.items (MissedOf more c begin) (WasLast count' begin (length more)) (BoundOf more c begin) state'
+        -- a node at which it is has a place, so its key is a port
+        small_key : (here : WalkAt) → Keeps room.items loaded here
+            → HasSmallKey env mix from begin now (MissedOf more c begin) (WasLast count' begin (length more)) seen core.words G placed.places
+            placed.inv.whole placed.right placed.deaths of_ports here
+        small_key (at.Key chain node) keeps = elim keeps.stands [
+          | inl out ↦ of_ports.small out.bucket node out.at out.is
+          | inr is ↦ of_ports.small (word_index env mix chain.place) node is.at is.is
+        ]
+        small_key _ keeps = tt
+
+        known_then : Knows room.items (MissedOf more c begin) (WasLast count' begin (length more)) state
+        known_then = by_more room.items state tied stood walking.known
+
+        known_next : Knows after.items (MissedOf more c begin) (WasLast count' begin (length more)) state'
         known_next =
-            walk_leads env mix from begin now (MissedOf more c begin) (WasLast count' begin (length more)) (BoundOf more c begin) seen
-            core.words G
-            placed.places placed.inv.whole placed.right placed.deaths of_ports learns limit room walking.roomy c state within tied stood
-            (by_more room.items state tied stood walking.known)
+            walk_leads env mix from begin now (MissedOf more c begin) (WasLast count' begin (length more)) seen core.words G placed.places
+            placed.inv.whole placed.right placed.deaths of_ports learns limit room walking.roomy c state within tied stood
+            (small_key state walking.keeps) known_then
+
+        bound_next : AllByRecursion (BoundOf more c begin) after.items
+        bound_next =
+            bound_leads env mix from begin now (MissedOf more c begin) (WasLast count' begin (length more)) seen core.words G placed.places
+            placed.inv.whole placed.right placed.deaths of_ports (BoundOf more c begin)
+            (λ n port late key. found_said env mix L events event core stands placed c port begin begun n key late) room c state known_then
+            (bounds_later c begin room.items walking.bound)
 
         keeps_next : Keeps after.items (loaded_after state loaded old) state'
         keeps_next =
@@ -378,5 +402,5 @@ module _ (L : Type 0) (mix : ℕ → ℕ → ℕ → ℕ) (env : Env) where
         goes_on roomy does =
             outlives after roomy limit state' does
             (walk_ties env mix core.words G placed.inv.whole from limit (length room.items) c state within tied)
-            (MissedOf more c begin) (WasLast count' begin (length more)) (BoundOf more c begin) (λ port said. said) (λ τ was. was)
-            (λ pair said. said) known_next (loaded_after state loaded old) keeps_next
+            (MissedOf more c begin) (WasLast count' begin (length more)) (λ port said. said) (λ τ was. was) known_next
+            (loaded_after state loaded old) keeps_next bound_next
