@@ -49,7 +49,7 @@ olds-performed : (steps : List Did) → map (λ (step : Performed). step.old) (m
 olds-performed [] = refl
 olds-performed (did ∷ steps) = ap (λ olds. did.old ∷ olds) (olds-performed steps)
 
-the_cursor : Cursor → Option Cursor → Cursor
+abbrev the_cursor : Cursor → Option Cursor → Cursor
 the_cursor other None = other
 the_cursor other (Some it) = it
 
@@ -138,7 +138,7 @@ goes-more spot later past (next ∷ rest) rise call goes up =
       few = elim up.few [
         | inl one ↦ inr (inl (omega (arith, low, high, one)))
         | inr any ↦
-            inr (inr (finds-fewer (first_bucket spot.cursor + (1 + (1 + length rest))) (first_bucket later.cursor + (1 + length rest))
+            inr (inr (finds-fewer (first_bucket spot.cursor + length (past ∷ next ∷ rest)) (first_bucket later.cursor + length (next ∷ rest))
             (next ∷ rest) (omega (arith, low, begins)) any))
       ];
     }
