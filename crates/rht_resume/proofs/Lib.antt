@@ -34,3 +34,5 @@ pub mod BoundPieces
 pub mod FewWalks
 -- what a walk of limit 1 answers that finds them
 pub mod StillWalks
+-- what the current table shows where no table is behind it
+pub mod CurrentBound
