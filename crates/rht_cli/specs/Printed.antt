@@ -1,5 +1,5 @@
--- The headlines of the forms `deal`, `lease` and `resume`. For every dealt script, every lease script and every resume script, whatever the threads do, what is printed is a text
--- of it: the answers and last bindings of a run of one-word steps, which one legal history of a finite multimap fits.
+-- The headlines of the forms `deal`, `lease` and `resume`. For every dealt script, every lease script and every resume script, whatever the threads
+-- do, what is printed is a text of it: the answers and last bindings of a run of one-word steps, which one legal history of a finite multimap fits.
 use Rattle.std.specs.Prelude.{ℕ, Option, Result, List}
 use Rattle.std.specs.Io.KnownBytes.{Appends}
 use Rattle.rht_script.specs.declared.script.ScriptFault.{ScriptFault}

@@ -20,8 +20,8 @@ use std::thread::Threads;
 
 /// The status of a run on these bytes where nothing outside can fail. A form that reads a script
 /// has 0 for a script and 2 for other bytes, or 5 where memory ran out; `deal` has so for dealt scripts,
-/// `lease` for lease scripts, `check` for claimed histories, and `resume` for resume scripts; `gen` has 0 or 5; and where the words are no
-/// command form the status is 1.
+/// `lease` for lease scripts, `check` for claimed histories, and `resume` for resume scripts; `gen` has 0 or
+/// 5; and where the words are no command form the status is 1.
 pub fn complete<R: Threads + Wait + Sync, G: Gate + Sync>(
     rt: &R,
     alloc: Global,

@@ -1,13 +1,16 @@
 //! `rht`, a registry of ports: it reads a script and prints what its commands are answered, and
 //! then the last bindings. It also replays a script's schedule, operation by operation, runs a script
 //! that it generates from a number, deals a script's commands to whichever worker is free, does a script
-//! of leases with a book for each worker, and judges a claimed history.
+//! of leases with a book for each worker, judges a claimed history, and does a script whose walks come in
+//! pieces.
 //!
-//! Stands on `rht_script`, `rht_registry`, `rht_deal`, `rht_lease`, `rht_check` and `rht_run`, and below them on
-//! `rht_model`, `rht_policy`, `rht_words` and `rht_io`; the definitions of `rht_core` say what a run is. `program` has the top call and
-//! its theorem; `main` here only makes the real source, sinks and gate. A script's commands are done,
-//! and its schedule is replayed, by `rht_registry`, whose table is closed by `rht_run`; a dealt script is done by
-//! `rht_deal`, which closes its own; and claims are judged by `rht_check`.
+//! Stands on `rht_script`, `rht_registry`, `rht_deal`, `rht_lease`, `rht_check`, `rht_resume` and `rht_run`, and
+//! below them on `rht_model`, `rht_policy`, `rht_words` and `rht_io`; the definitions of `rht_core` say what a run
+//! is. `program` has the top call and its theorem; `main` here only makes the real source, sinks and gate.
+//!
+//! A script's commands are done, and its schedule is replayed, by `rht_registry`, whose table is closed by
+//! `rht_run`. Dealt scripts are done by `rht_deal`, lease scripts by `rht_lease` and resume scripts by
+//! `rht_resume`, which close tables of their own. Claims are judged by `rht_check`.
 #![tactic(auto)]
 
 mod ending;

@@ -2,8 +2,8 @@
 //!
 //! Stands on the forms, the reader of the input, the script's writer, the registry whose workers do a
 //! script's commands on a table or which replays it, the closing of that table, the dealing of a script, the
-//! doing of a lease script and of a resume script, the judge of claimed histories, and the endings. Begin with the clauses of `run`:
-//! they say what each status means.
+//! doing of a lease script and of a resume script, the judge of claimed histories, and the endings. Begin with
+//! the clauses of `run`: they say what each status means.
 
 ghost use Rattle.std.specs.Prelude.{◌≡◌, ◌≢◌, ◌≤◌, ◌↔◌, ◌⊎◌, None, Some, Option, List, ℕ, string_bytes, map, IfOk};
 ghost use Rattle.rht_io.specs.Told.{Rose, PutsLine};
@@ -48,9 +48,9 @@ use std::thread::Threads;
 /// Runs the program on the words after its name, and answers its exit status.
 ///
 /// The input comes from the source: a script, a dealt script, a lease script, a resume script or a claimed
-/// history, as the form has it; `gen` reads none. The text goes to `out`, and the line of a status above 0 to `err`, whose faults
-/// change no status. The gate hears of each command before it, and after it where there is memory to keep what
-/// it was answered; `replay` and `check` don't ask it.
+/// history, as the form has it; `gen` reads none. The text goes to `out`, and the line of a status above 0 to
+/// `err`, whose faults change no status. The gate hears of each command before it, and after it where there is
+/// memory to keep what it was answered; `replay` and `check` don't ask it.
 pub fn run<R: Threads + Wait + Sync, S: Source, O: Sink, E: Sink, G: Gate + Sync>(
     rt: &R,
     alloc: Global,

@@ -27,7 +27,7 @@ use Rattle.rht_resume.specs.Scripts.{IsSoundResume}
 
 -- ---- a `next`
 
--- a table has no more buckets than so many
+-- a table's shape can tell of no more buckets than so many
 abbrev pub most_buckets : ℕ
 most_buckets = 262144
 

@@ -21,8 +21,8 @@ pub fn decided()
     ensures { DecidesAnswers }
 {}
 
-/// In every run the walks of a `next` go on from bucket to later bucket of one table, and there are no more of them than the table that one of
-/// them found has buckets.
+/// In every run the walks of a `next` go on from bucket to later bucket of one table, by its serial, and there are
+/// no more of them than the table that one of them found has buckets.
 pub fn few_walks<M: Mix>()
     ensures { WalksRise M M.mix_of }
 {}
@@ -32,8 +32,8 @@ pub fn bound<M: Mix>()
     ensures { PiecesShowBound M M.mix_of }
 {}
 
-/// In every run a resumed walk over words that stay, but for section words, shows each port that these stand for, once and with its first owner,
-/// and nothing else.
+/// In every run a resumed walk over words that stay, but for section words, shows each port that these stand for,
+/// once and with its first owner, and nothing else.
 pub fn quiet<M: Mix>()
     ensures { ShowsAllOnce M M.mix_of }
 {}

@@ -32,7 +32,7 @@ const START: Spot = Spot {
     shown: 0,
 };
 
-/// A table has no more buckets than so many.
+/// A table's shape can tell of no more buckets than so many.
 const MOST_BUCKETS: u32 = 262_144;
 
 /// A walk in pieces, each of at most as many pairs as its caller states. It is kept beside a pass, for a table
