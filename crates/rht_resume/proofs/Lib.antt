@@ -36,3 +36,5 @@ pub mod FewWalks
 pub mod StillWalks
 -- what the current table shows where no table is behind it
 pub mod CurrentBound
+-- what a resumed walk shows over buckets that stay as they are
+pub mod WholePieces
