@@ -18,6 +18,8 @@ pub mod AnswerLines
 pub mod PieceLaws
 -- the endings of a worker's calls, cut into those of its commands
 pub mod AnswerLemmas
+-- a worker's finished calls decide how the calls ended that its commands stand for
+pub mod DecidedAnswers
 -- how a pass gets on by the calls that commands stand for
 pub mod ServedCommands
 -- a worker with one command more

@@ -1,5 +1,5 @@
 -- What follows for resumed walks and for the calls that commands stand for, in the words of pieces, ports and owners.
-use Rattle.std.specs.Prelude.{◌≡◌, ◌≢◌, ℕ, ◌+◌, ◌<◌, ◌≤◌, ◌↔◌, ◌⊎◌, Option, Some, None, List, [], ◌∷◌, length, map, slice_index}
+use Rattle.std.specs.Prelude.{◌≡◌, ◌≢◌, ℕ, ◌+◌, ◌<◌, ◌≤◌, ◌↔◌, ◌⊎◌, Bool, Option, Some, None, List, [], ◌∷◌, length, map, slice_index}
 use Rattle.std.specs.List.{AllByRecursion, flat_map}
 use Rattle.rht_words.specs.declared.env.Env.{Env}
 use Rattle.rht_words.specs.Members.{In, IsDistinct}
@@ -7,6 +7,7 @@ use Rattle.rht_words.specs.Places.{Section, place_of}
 use Rattle.rht_words.specs.Shapes.{unpacked, size_of}
 use Rattle.rht_model.specs.declared.history.Call.TheVariants.{Walk}
 use Rattle.rht_model.specs.declared.history.Cursor.{Cursor}
+use Rattle.rht_model.specs.declared.finished.Finished.{Finished}
 use Rattle.rht_model.specs.declared.history.Entry.{Entry}
 use Rattle.rht_model.specs.declared.history.Reply.TheVariants as replies
 use Rattle.rht_model.specs.Endings.{Ending, ending_in}
@@ -16,6 +17,7 @@ use Rattle.rht_core.specs.Lookups.{shape_found}
 use Rattle.rht_core.specs.RunHistories.{bindings_behind}
 use Rattle.rht_core.specs.Runs.{IsAdmitted}
 use Rattle.rht_core.specs.Seen.{words_before}
+use Rattle.rht_core.specs.Serving.{Serves}
 use Rattle.rht_core.specs.Shown.{AreAmong, ends_behind}
 use Rattle.rht_core.specs.ToldHistories.{TellsOf}
 use Rattle.rht_core.specs.Traces.{Past, traced_of, behind_call}
@@ -25,7 +27,7 @@ use Rattle.rht_resume.specs.declared.resume.ResumeCall.{ResumeCall}
 use Rattle.rht_resume.specs.declared.resume.ResumeScript.{ResumeScript}
 use Rattle.rht_resume.specs.declared.resumed.Spot.{Spot}
 use Rattle.rht_resume.specs.declared.outcome.ResumeOutcome.{ResumeOutcome}
-use Rattle.rht_resume.specs.Answers.{Answer, AreAnswered}
+use Rattle.rht_resume.specs.Answers.{Answer, AreAnswered, calls_in_turn}
 use Rattle.rht_resume.specs.Pieces.{Outcome, start, outcome_of, walks_of}
 use Rattle.rht_resume.specs.Resuming.{IsResumedBy}
 
@@ -55,11 +57,13 @@ BeginsAnewByWalk =
     (limit : ℕ) (spot : Spot) (endings : List Ending) (outcome : Outcome) (table : ℕ) → outcome_of limit spot endings ≡ Some outcome
     → (outcome.piece ≡ Again table) ↔ AnswersAgain table endings
 
--- How a worker's calls ended decides what its commands were answered.
+-- A worker's finished calls decide what its commands were answered.
 abbrev pub DecidesAnswers : Type 0
 DecidesAnswers =
-    (spot : Option Spot) (asked : List ResumeCall) (answers others : List Answer) (endings : List Ending)
-    → AreAnswered spot asked answers endings → AreAnswered spot asked others endings → answers ≡ others
+    (auto : Bool) (asked : List ResumeCall) (answers others : List Answer) (endings ends : List Ending) (dones : List Finished)
+    → AreAnswered (Some start) asked answers endings → Serves auto (calls_in_turn (Some start) asked endings) endings dones
+    → AreAnswered (Some start) asked others ends → Serves auto (calls_in_turn (Some start) asked ends) ends dones
+    → answers ≡ others
 
 -- ---- in every run
 

@@ -16,7 +16,7 @@ pub fn begun_anew()
     ensures { BeginsAnewByWalk }
 {}
 
-/// How a worker's calls ended decides what its commands were answered.
+/// A worker's finished calls decide what its commands were answered.
 pub fn decided()
     ensures { DecidesAnswers }
 {}

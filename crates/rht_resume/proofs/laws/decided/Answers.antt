@@ -1,5 +1,5 @@
-use Rattle.rht_resume.proofs.AnswerLemmas.{decides}
+use Rattle.rht_resume.proofs.DecidedAnswers.{finished-decide}
 use Rattle.rht_resume.proofs.laws.decided.Goals as goal
 
 pub returns : goal.returns
-returns c = decides
+returns c = finished-decide
