@@ -10,6 +10,7 @@ use Rattle.rht_resume.specs.Resuming.{IsResumedBy, IsResuming}
 use Rattle.rht_resume.specs.Reading.{said_by_resume}
 use Rattle.rht_resume.specs.Scripts.{IsSoundResume}
 use Rattle.rht_resume.proofs.ResumeRuns.{calls_of-all}
+use Rattle.rht_resume.proofs.ScriptLaws.{outnumbers, takes_all, as_model}
 use Rattle.rht_resume.proofs.SoundScripts.{commands_of-one}
 use Rattle.rht_resume.specs.Text.{resume_text}
 use Rattle.rht_cli.specs.declared.form.Form.TheVariants.{Resume}
@@ -43,6 +44,9 @@ Prints-resumed left left_after script answers closed sound read resuming = recor
     same_calls = λ i below. calls_of-all script.commands.items i resuming.endings
         (let workers = resuming.run.served.workers in omega (arith, below, workers));
     in_script_order = λ one. commands_of-one script.config script.commands.items one sound.commands;
+    outnumbered = outnumbers script.config script.commands.items resuming.endings;
+    roomy = takes_all script.config script.auto script.commands.items answers closed resuming;
+    small = as_model script.config script.auto script.commands.items answers closed resuming;
     written = refl;
   };
 }

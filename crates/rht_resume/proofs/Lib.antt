@@ -40,3 +40,5 @@ pub mod StillWalks
 pub mod CurrentBound
 -- what a resumed walk shows over buckets that stay as they are
 pub mod WholePieces
+-- what the commands say of the calls that they stand for
+pub mod ScriptLaws

@@ -1,35 +1,47 @@
 -- What follows for resumed walks and for the calls that commands stand for, in the words of pieces, ports and owners.
 use Rattle.std.specs.Prelude.{◌≡◌, ◌≢◌, ℕ, ◌+◌, ◌<◌, ◌≤◌, ◌↔◌, ◌⊎◌, Bool, Option, Some, None, List, [], ◌∷◌, length, map, slice_index}
+use Rattle.std.specs.Prelude.{◌≡◌, ◌≢◌, ℕ, ◌+◌, ◌<◌, ◌≤◌, ◌↔◌, ◌⊎◌, Bool, false, Option, Some, None, List, [], ◌∷◌, length, map, take, count_by, slice_index}
 use Rattle.std.specs.List.{AllByRecursion, flat_map}
+use Rattle.rht_words.specs.declared.config.Config.{Config}
 use Rattle.rht_words.specs.declared.env.Env.{Env}
 use Rattle.rht_words.specs.Members.{In, IsDistinct}
 use Rattle.rht_words.specs.Places.{Section, place_of}
 use Rattle.rht_words.specs.Shapes.{unpacked, size_of}
+use Rattle.rht_words.specs.Sizes.{first_size}
+use Rattle.rht_model.specs.declared.bindings.Closed.{Closed}
+use Rattle.rht_model.specs.declared.history.Call.{Call}
 use Rattle.rht_model.specs.declared.history.Call.TheVariants.{Walk}
 use Rattle.rht_model.specs.declared.history.Cursor.{Cursor}
 use Rattle.rht_model.specs.declared.finished.Finished.{Finished}
 use Rattle.rht_model.specs.declared.history.Entry.{Entry}
 use Rattle.rht_model.specs.declared.history.Reply.TheVariants as replies
 use Rattle.rht_model.specs.Endings.{Ending, ending_in}
-use Rattle.rht_model.specs.Multimap.{Port}
+use Rattle.rht_model.specs.Multimap.{Port, unbound}
 use Rattle.rht_core.specs.declared.event.Event.{Event}
+use Rattle.rht_core.specs.FewPorts.{BindsAmong}
 use Rattle.rht_core.specs.Lookups.{shape_found}
+use Rattle.rht_core.specs.NeverRefused.{AreAllTaken, bindings_after_all, AreAsModel}
+use Rattle.rht_core.specs.NodesUsed.{needs_node}
 use Rattle.rht_core.specs.RunHistories.{bindings_behind}
 use Rattle.rht_core.specs.Runs.{IsAdmitted}
 use Rattle.rht_core.specs.Seen.{words_before}
 use Rattle.rht_core.specs.Serving.{Serves}
+use Rattle.rht_core.specs.Serving.{calls_of}
 use Rattle.rht_core.specs.Shown.{AreAmong, ends_behind}
-use Rattle.rht_core.specs.ToldHistories.{TellsOf}
+use Rattle.rht_core.specs.ToldHistories.{endings_by, IsOutnumbered, TellsOf}
 use Rattle.rht_core.specs.Traces.{Past, traced_of, behind_call}
+use Rattle.rht_stands.specs.StandsFor.{AreBound}
 use Rattle.rht_resume.specs.declared.resume.Piece.{Piece}
 use Rattle.rht_resume.specs.declared.resume.Piece.TheVariants.{Part, End, Again}
 use Rattle.rht_resume.specs.declared.resume.ResumeCall.{ResumeCall}
+use Rattle.rht_resume.specs.declared.resume.ResumeCall.TheVariants as asks
 use Rattle.rht_resume.specs.declared.resume.ResumeScript.{ResumeScript}
 use Rattle.rht_resume.specs.declared.resumed.Spot.{Spot}
 use Rattle.rht_resume.specs.declared.outcome.ResumeOutcome.{ResumeOutcome}
 use Rattle.rht_resume.specs.Answers.{Answer, AreAnswered, calls_in_turn}
+use Rattle.rht_resume.specs.Answers.{Answer, AreAnswered, commands_of, all_calls}
 use Rattle.rht_resume.specs.Pieces.{Outcome, start, outcome_of, walks_of}
-use Rattle.rht_resume.specs.Resuming.{IsResumedBy}
+use Rattle.rht_resume.specs.Resuming.{IsResumedBy, IsResuming}
 
 -- ---- pieces
 
@@ -186,6 +198,66 @@ module _ (M : Type 0) (mix : ℕ → ℕ → ℕ → ℕ) where
       → AreAmong (all_walks (made ∷ others)) ((traced_of {M = M} mix env events).traces c).past
       → IsStill env events (begins_at made) (ends_with made others)
       → AreAllBound env events (begins_at made) (ends_with made others) (all_pairs (made ∷ others))
+
+-- ---- what the script says of its calls
+
+-- the command binds or rebinds
+abbrev pub asks_node : ResumeCall → Bool
+asks_node (asks.Plain call) = needs_node call
+asks_node (asks.Next limit) = false
+
+-- where the command binds, its port is one of these
+abbrev pub AsksAmong : List Port → ResumeCall → Type 0
+AsksAmong ports (asks.Plain call) = BindsAmong ports call
+AsksAmong ports (asks.Next limit) = Unit {0}
+
+-- the calls of the plain commands among these
+abbrev pub plain_calls : List ResumeCall → List Call
+plain_calls [] = []
+plain_calls (asks.Plain call ∷ asked) = call ∷ plain_calls asked
+plain_calls (asks.Next limit ∷ asked) = plain_calls asked
+
+-- Where the calls that bind or rebind outnumber the nodes, the commands do, however the calls ended.
+abbrev pub OutnumbersByCommands : Type 0
+OutnumbersByCommands =
+    (config : Config) (commands : List (ℕ × ResumeCall)) (endings : List (List Ending)) → IsOutnumbered config (all_calls commands endings)
+    → config.nodes < count_by (λ command. asks_node command.1) commands
+
+-- The table begins with 64 buckets or more and doesn't shrink, it has as many nodes as there are commands that bind or rebind, or more, and
+-- those that bind name 15 ports at most. Of a `next` nothing is asked.
+pub record IsRoomyForPieces (config : Config) (commands : List (ℕ × ResumeCall)) : Type 0 where
+  pub first : 64 ≤ first_size config
+  pub keeps_size : config.shrink ≡ false
+  pub nodes : count_by (λ command. asks_node command.1) commands ≤ config.nodes
+  pub ports : List Port
+  pub few : length ports ≤ 15
+  pub among : AllByRecursion (λ command. AsksAmong ports command.1) commands
+
+-- Then no call about bindings that a command stands for is refused, no walk from the first bucket on has to begin anew, and the size that is
+-- closed is the one with which the table began.
+abbrev pub TakesAllWhereRoomy : Type 0
+TakesAllWhereRoomy =
+    (config : Config) (auto : Bool) (commands : List (ℕ × ResumeCall)) (answers : List (List Answer)) (closed : Closed)
+    → (resuming : IsResuming config auto commands answers closed) → IsRoomyForPieces config commands
+    → AreAllTaken config (all_calls commands resuming.endings) resuming.endings closed
+
+-- ---- one worker
+
+-- The table has one worker, begins with 16 buckets or more and doesn't shrink, and has as many nodes as there are commands that bind or rebind,
+-- or more. After each of its plain calls fewer than 16 ports are bound by the model.
+pub record IsSmallForPieces (config : Config) (commands : List (ℕ × ResumeCall)) : Type 0 where
+  pub one : config.callers ≡ 1
+  pub first : 16 ≤ first_size config
+  pub keeps_size : config.shrink ≡ false
+  pub nodes : count_by (λ command. asks_node command.1) commands ≤ config.nodes
+  pub few : (n : ℕ) → ¬ AreBound (bindings_after_all config.kind unbound (take n (plain_calls (commands_of 1 commands)))) 16
+
+-- Then each of its calls about bindings is answered as the model answers it, in their order, and what was closed is what the model leaves.
+abbrev pub AnswersAsModel : Type 0
+AnswersAsModel =
+    (config : Config) (auto : Bool) (commands : List (ℕ × ResumeCall)) (answers : List (List Answer)) (closed : Closed)
+    → (resuming : IsResuming config auto commands answers closed) → IsSmallForPieces config commands
+    → AreAsModel config.kind (calls_of 1 (all_calls commands resuming.endings)) (endings_by 0 resuming.endings) closed
 
 -- ---- what the workers leave
 

@@ -2,7 +2,7 @@
 //! is empty, and its clause is the law. What else is so of the run that they leave, is said of every run that
 //! serves commands (the laws of `rht_core`, and `HasRun` of `rht_run`).
 
-ghost use Rattle.rht_resume.specs.Laws.{CutsRightly, BeginsAnewByWalk, DecidesAnswers, WalksRise, PiecesShowBound, ShowsAllOnce, HistoryFits};
+ghost use Rattle.rht_resume.specs.Laws.{CutsRightly, BeginsAnewByWalk, DecidesAnswers, WalksRise, PiecesShowBound, ShowsAllOnce, OutnumbersByCommands, TakesAllWhereRoomy, AnswersAsModel, HistoryFits};
 
 use rht_policy::Mix;
 
@@ -36,6 +36,22 @@ pub fn bound<M: Mix>()
 /// once and with its first owner, and nothing else.
 pub fn quiet<M: Mix>()
     ensures { ShowsAllOnce M M.mix_of }
+{}
+
+/// How many nodes are wanted at most, the script says: a `next` wants none.
+pub fn outnumbered()
+    ensures { OutnumbersByCommands }
+{}
+
+/// Where the table is roomy for the script's commands, no bind and no rebind is refused.
+pub fn roomy()
+    ensures { TakesAllWhereRoomy }
+{}
+
+/// Where the plain calls of one worker leave few ports bound at a time, each of its calls about bindings is answered
+/// as the model answers it.
+pub fn small()
+    ensures { AnswersAsModel }
 {}
 
 /// A legal history fits the run that the workers leave.
