@@ -1,5 +1,4 @@
 -- What follows for resumed walks and for the calls that commands stand for, in the words of pieces, ports and owners.
-use Rattle.std.specs.Prelude.{◌≡◌, ◌≢◌, ℕ, ◌+◌, ◌<◌, ◌≤◌, ◌↔◌, ◌⊎◌, Bool, Option, Some, None, List, [], ◌∷◌, length, map, slice_index}
 use Rattle.std.specs.Prelude.{◌≡◌, ◌≢◌, ℕ, ◌+◌, ◌<◌, ◌≤◌, ◌↔◌, ◌⊎◌, Bool, false, Option, Some, None, List, [], ◌∷◌, length, map, take, count_by, slice_index}
 use Rattle.std.specs.List.{AllByRecursion, flat_map}
 use Rattle.rht_words.specs.declared.config.Config.{Config}
@@ -9,10 +8,10 @@ use Rattle.rht_words.specs.Places.{Section, place_of}
 use Rattle.rht_words.specs.Shapes.{unpacked, size_of}
 use Rattle.rht_words.specs.Sizes.{first_size}
 use Rattle.rht_model.specs.declared.bindings.Closed.{Closed}
+use Rattle.rht_model.specs.declared.finished.Finished.{Finished}
 use Rattle.rht_model.specs.declared.history.Call.{Call}
 use Rattle.rht_model.specs.declared.history.Call.TheVariants.{Walk}
 use Rattle.rht_model.specs.declared.history.Cursor.{Cursor}
-use Rattle.rht_model.specs.declared.finished.Finished.{Finished}
 use Rattle.rht_model.specs.declared.history.Entry.{Entry}
 use Rattle.rht_model.specs.declared.history.Reply.TheVariants as replies
 use Rattle.rht_model.specs.Endings.{Ending, ending_in}
@@ -25,8 +24,7 @@ use Rattle.rht_core.specs.NodesUsed.{needs_node}
 use Rattle.rht_core.specs.RunHistories.{bindings_behind}
 use Rattle.rht_core.specs.Runs.{IsAdmitted}
 use Rattle.rht_core.specs.Seen.{words_before}
-use Rattle.rht_core.specs.Serving.{Serves}
-use Rattle.rht_core.specs.Serving.{calls_of}
+use Rattle.rht_core.specs.Serving.{Serves, calls_of}
 use Rattle.rht_core.specs.Shown.{AreAmong, ends_behind}
 use Rattle.rht_core.specs.ToldHistories.{endings_by, IsOutnumbered, TellsOf}
 use Rattle.rht_core.specs.Traces.{Past, traced_of, behind_call}
@@ -38,8 +36,7 @@ use Rattle.rht_resume.specs.declared.resume.ResumeCall.TheVariants as asks
 use Rattle.rht_resume.specs.declared.resume.ResumeScript.{ResumeScript}
 use Rattle.rht_resume.specs.declared.resumed.Spot.{Spot}
 use Rattle.rht_resume.specs.declared.outcome.ResumeOutcome.{ResumeOutcome}
-use Rattle.rht_resume.specs.Answers.{Answer, AreAnswered, calls_in_turn}
-use Rattle.rht_resume.specs.Answers.{Answer, AreAnswered, commands_of, all_calls}
+use Rattle.rht_resume.specs.Answers.{Answer, AreAnswered, commands_of, calls_in_turn, all_calls}
 use Rattle.rht_resume.specs.Pieces.{Outcome, start, outcome_of, walks_of}
 use Rattle.rht_resume.specs.Resuming.{IsResumedBy, IsResuming}
 
