@@ -80,6 +80,9 @@ admitted-first events zero all = tt
 admitted-first [] (suc n) all = tt
 admitted-first (event ∷ events) (suc n) all = (all.0, admitted-first events n all.1)
 
+less-none : (n : ℕ) → n ≡ n - 0
+less-none n = omega arith
+
 -- ---- words that stay
 
 module _ (L : Type 0) (mix : ℕ → ℕ → ℕ → ℕ) (env : Env) (events : List Event) where
@@ -187,6 +190,9 @@ module _ (L : Type 0) (mix : ℕ → ℕ → ℕ → ℕ) (env : Env) (events : 
   abbrev Answers : ℕ → Past → Type 0
   Answers at = WalkedBy (bucket_pairs env.geometry (words at)) (size_now env.geometry (words at)) (IsNoneBehind env.geometry (words at))
 
+  abbrev FoundAll : ℕ → Past → Type 0
+  FoundAll at past = AllByRecursion (FindsHere env.geometry (words at)) (map performed_of past.steps)
+
   answers : (at : ℕ) → begin < at → at ≤ behind → AllByRecursion (Answers at) walks
   answers at low high =
       AllByRecursion-both (HasWalked env c) (FoundAll at) (Answers at)
@@ -196,9 +202,6 @@ module _ (L : Type 0) (mix : ℕ → ℕ → ℕ → ℕ) (env : Env) (events : 
       (among-all (HasWalked env c) walks all_past (walked L mix env events c admitted) among)
       (AllByRecursion-both IsCallOf (LiesBetween begin behind) (FoundAll at)
       (λ past is lies. finds_all L mix env events begin behind still c at (omega (arith, low)) high past is.0 is.1 lies) walks calls between)
-    where
-      abbrev FoundAll : ℕ → Past → Type 0
-      FoundAll n past = AllByRecursion (FindsHere env.geometry (words n)) (map performed_of past.steps)
 
   shows : (at : ℕ) → begin < at → at ≤ behind
       → CurrentShows L mix env (take at events) (admitted-first events at admitted) (all_pairs (made ∷ others))
@@ -209,7 +212,7 @@ module _ (L : Type 0) (mix : ℕ → ℕ → ℕ → ℕ) (env : Env) (events : 
       let came = whole f size (IsNoneBehind g (words at)) (made ∷ others) is_walk (answers at low high) in
       let first = admitted-first events at admitted in
       subst (CurrentShows L mix env (take at events) first)
-      (buckets_show L mix env (take at events) first ∙ sym came.0)
+      (buckets_show L mix env (take at events) first ∙ ap (λ n. flat_map f (range_with_len 0 n)) (less-none size) ∙ sym came.0)
       (current_shows L mix env (take at events) first came.1)
 
   pub all_once : AreAllBound L mix env events begin behind (all_pairs (made ∷ others))

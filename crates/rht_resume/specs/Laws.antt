@@ -146,6 +146,10 @@ abbrev pub ends_with : NextMade → List NextMade → ℕ
 ends_with made [] = ends_at made
 ends_with made (next ∷ others) = ends_with next others
 
+-- the word at this place is no caller's section word
+abbrev pub IsNoSection : Env → ℕ → Type 0
+IsNoSection env place = (caller : ℕ) → caller < 16 → place ≢ place_of env.geometry (Section caller)
+
 module _ (M : Type 0) (mix : ℕ → ℕ → ℕ → ℕ) where
   -- behind some event of the span the words stand for this owner as the port's first one
   pub record IsBoundBetween (env : Env) (events : List Event) (begin behind : ℕ) (pair : Port × ℕ) : Type 0 where
@@ -168,10 +172,6 @@ module _ (M : Type 0) (mix : ℕ → ℕ → ℕ → ℕ) where
       (env : Env) (events : List Event) (c : ℕ) (spot : Spot) (made : NextMade) → IsAdmitted events → IsNextFrom spot made
       → AreAmong (walks_in made) ((traced_of {M = M} mix env events).traces c).past
       → AreRising spot.cursor (walks_in made) × AnyFindsTable (length (walks_in made)) (walks_in made)
-
-  -- the word at this place is no caller's section word
-  abbrev pub IsNoSection : Env → ℕ → Type 0
-  IsNoSection env place = (caller : ℕ) → caller < 16 → place ≢ place_of env.geometry (Section caller)
 
   -- no event of the span changes a word other than section words
   abbrev pub IsStill : Env → List Event → ℕ → ℕ → Type 0
