@@ -38,8 +38,8 @@ pub fn quiet<M: Mix>()
     ensures { ShowsAllOnce M M.mix_of }
 {}
 
-/// How many nodes are wanted at most, the script says: a `next` wants none.
-pub fn outnumbered()
+/// Where the calls that bind or rebind outnumber the nodes, the commands do: a `next` wants no node.
+pub fn nodes()
     ensures { OutnumbersByCommands }
 {}
 

@@ -183,7 +183,8 @@ fn assert_piece(
 #[test]
 fn workers_walk_in_turn(rt: HostRuntime) -> Result<(), Fail> {
     // The lines stand in the order of the turns. Bucket 0 has both ports, and each worker has a walk of its own.
-    let text = "table single workers 2 hash low\n1 bind 0 10\n2 bind 64 20\n1 next 1\n2 next 1\n1 next 1\n2 next 2\n1 next 1\n2 next 1\n";
+    let text =
+        "table single workers 2 hash low\n1 bind 0 10\n2 bind 64 20\n1 next 1\n2 next 1\n1 next 1\n2 next 2\n1 next 1\n2 next 1\n";
     let outcome = resumed(&rt, rt.alloc(), text, &InTurn::new())?;
     assert_same(&rt, outcome.replies.len(), 2);
     assert!(rt; 1 < outcome.replies.len());

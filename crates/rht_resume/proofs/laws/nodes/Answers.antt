@@ -1,5 +1,5 @@
 use Rattle.rht_resume.proofs.ScriptLaws.{outnumbers}
-use Rattle.rht_resume.proofs.laws.outnumbered.Goals as goal
+use Rattle.rht_resume.proofs.laws.nodes.Goals as goal
 
 pub returns : goal.returns
 returns c = outnumbers
