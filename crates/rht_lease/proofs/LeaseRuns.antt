@@ -2,6 +2,7 @@
 -- that the answers come of; and where the table is closed that is a run.
 use Rattle.std.proofs.Common.{◌≡◌, ℕ, ◌+◌, ◌<◌, Bool, List, [], length, get_or, refl}
 use Rattle.rht_words.specs.declared.config.Config.{Config}
+use Rattle.rht_model.specs.declared.history.Call.{Call}
 use Rattle.rht_model.specs.Endings.{Ending}
 use Rattle.rht_core.specs.Serving.{calls_of}
 use Rattle.rht_run.specs.declared.pass.Pass.{Pass}
@@ -21,6 +22,13 @@ calls_of-all commands i answers = workers.calls_of-all (own_calls commands) [] i
 module _ {M : Type 0} (mix : ℕ → ℕ → ℕ → ℕ) (config : Config) (t : Table M) (auto : Bool) (commands : List (ℕ × LeaseCall))
     (passes : List (Pass M)) (answers : List (List Answer))
     (all : HaveWorkedAll (λ i pass own. HasLeased mix t auto (commands_of (i + 1) commands) i pass own) config t passes answers) where
+  -- the calls of a worker and its answers, by how the calls ended
+  abbrev calls_by : ℕ → List Answer → List Ending → List Call
+  calls_by worker own endings = own_calls commands worker own
+
+  abbrev AnswersBy : ℕ → List Answer → List Ending → Type 0
+  AnswersBy worker own endings = AreAnswered [] (commands_of worker commands) own endings
+
   -- the endings of each worker's calls, which its answers come of
   pub record AreLeased : Type 0 where
     pub endings : List (List Ending)
@@ -29,12 +37,11 @@ module _ {M : Type 0} (mix : ℕ → ℕ → ℕ → ℕ) (config : Config) (t :
 
   pub AreLeased-all : AreLeased
   AreLeased-all =
-      let calls = λ (worker : ℕ) (own : List Answer) (endings : List Ending). own_calls commands worker own in
-      let Answered = λ (worker : ℕ). AreAnswered [] (commands_of worker commands) in
-      let ended = AreEnded-all mix config t auto calls Answered [] passes answers all in
+      let ended = AreEnded-all mix config t auto calls_by AnswersBy [] passes answers all in
       record {
         endings = ended.endings;
         answered = record { workers = all.workers; each = ended.answered };
         served =
-            HaveServedAll-ended mix config t auto calls Answered [] passes answers all (own_calls commands) [] answers all.workers (λ i. refl);
+            HaveServedAll-ended mix config t auto calls_by AnswersBy [] passes answers all ended (own_calls commands) [] answers all.workers
+            (λ i. refl);
       }

@@ -3,6 +3,7 @@
 use Rattle.std.proofs.Common.{◌≡◌, ℕ, ◌+◌, ◌<◌, Bool, List, [], length, get_or, refl}
 use Rattle.std.specs.Prelude.{Some}
 use Rattle.rht_words.specs.declared.config.Config.{Config}
+use Rattle.rht_model.specs.declared.history.Call.{Call}
 use Rattle.rht_model.specs.Endings.{Ending}
 use Rattle.rht_core.specs.Serving.{calls_of}
 use Rattle.rht_run.specs.declared.pass.Pass.{Pass}
@@ -23,6 +24,13 @@ calls_of-all commands i endings = workers.calls_of-all (own_calls commands) [] i
 module _ {M : Type 0} (mix : ℕ → ℕ → ℕ → ℕ) (config : Config) (t : Table M) (auto : Bool) (commands : List (ℕ × ResumeCall))
     (passes : List (Pass M)) (answers : List (List Answer))
     (all : HaveWorkedAll (λ i pass own. HasDoneAll mix t auto (commands_of (i + 1) commands) i pass own) config t passes answers) where
+  -- the calls of a worker and its answers, by how the calls ended
+  abbrev calls_by : ℕ → List Answer → List Ending → List Call
+  calls_by worker own endings = own_calls commands worker endings
+
+  abbrev AnswersBy : ℕ → List Answer → List Ending → Type 0
+  AnswersBy worker own endings = AreAnswered (Some start) (commands_of worker commands) own endings
+
   -- the endings of each worker's calls, which its answers come of
   pub record AreServed : Type 0 where
     pub endings : List (List Ending)
@@ -31,13 +39,11 @@ module _ {M : Type 0} (mix : ℕ → ℕ → ℕ → ℕ) (config : Config) (t :
 
   pub AreServed-all : AreServed
   AreServed-all =
-      let calls = λ (worker : ℕ) (own : List Answer) (endings : List Ending). own_calls commands worker endings in
-      let Answered = λ (worker : ℕ). AreAnswered (Some start) (commands_of worker commands) in
-      let ended = AreEnded-all mix config t auto calls Answered [] passes answers all in
+      let ended = AreEnded-all mix config t auto calls_by AnswersBy [] passes answers all in
       record {
         endings = ended.endings;
         answered = record { workers = all.workers; each = ended.answered };
         served =
-            HaveServedAll-ended mix config t auto calls Answered [] passes answers all (own_calls commands) [] ended.endings ended.workers
-            (λ i. refl);
+            HaveServedAll-ended mix config t auto calls_by AnswersBy [] passes answers all ended (own_calls commands) [] ended.endings
+            ended.workers (λ i. refl);
       }

@@ -72,15 +72,16 @@ module _ {M L : Type 0} (mix : ℕ → ℕ → ℕ → ℕ) (config : Config) (t
   AreEnded-all = by_passes passes refl
 
   -- So all passes have served all calls, where those of each worker are told by this.
-  pub HaveServedAll-ended : {A : Type 0} (own : ℕ → A → List Call) (default : A) (told : List A) → length told ≡ config.callers
-      → ((i : ℕ) → own (i + 1) (get_or told i default) ≡ calls (i + 1) (get_or left i none) (get_or AreEnded-all.endings i []))
-      → HaveServedAll mix config t auto (calls_from own 1 told) passes AreEnded-all.endings
-  HaveServedAll-ended own default told many are = record {
+  pub HaveServedAll-ended : (ended : AreEnded) {A : Type 0} (own : ℕ → A → List Call) (default : A) (told : List A)
+      → length told ≡ config.callers
+      → ((i : ℕ) → own (i + 1) (get_or told i default) ≡ calls (i + 1) (get_or left i none) (get_or ended.endings i []))
+      → HaveServedAll mix config t auto (calls_from own 1 told) passes ended.endings
+  HaveServedAll-ended ended own default told count are = record {
     config_same = all.config_same;
     many = all.many;
-    workers = AreEnded-all.workers;
+    workers = ended.workers;
     each = λ i pass below.
-        let within : i < length told = omega (arith, below, many) in
-        subst (λ cs. HasServedCalls mix t auto i cs (get_or passes i pass) (get_or AreEnded-all.endings i []))
-        (sym (calls_of-all own default i told within ∙ are i)) (AreEnded-all.served i pass below);
+        let within : i < length told = omega (arith, below, count) in
+        subst (λ cs. HasServedCalls mix t auto i cs (get_or passes i pass) (get_or ended.endings i []))
+        (sym (calls_of-all own default i told within ∙ are i)) (ended.served i pass below);
   }
