@@ -2,15 +2,9 @@
 use Rattle.std.proofs.Common.{ℕ, Result, Ok, Err, List, ◌++◌}
 use Rattle.rht_model.specs.declared.history.Call.{Call}
 use Rattle.rht_script.specs.declared.script.ScriptFault.{ScriptFault}
-use Rattle.rht_check.specs.Claims.{Told}
 use Rattle.rht_check.specs.Reading.{Asked}
 
 -- these commands, and then what is asked
 abbrev pub with_commands : List (ℕ × Call) → Result Asked ScriptFault → Result Asked ScriptFault
 with_commands commands (Ok asked) = Ok (record asked { commands = commands ++ asked.commands })
 with_commands commands (Err fault) = Err fault
-
--- these claims, and then what is claimed
-abbrev pub with_claims : List Told → Result (List Told) ScriptFault → Result (List Told) ScriptFault
-with_claims claims (Ok others) = Ok (claims ++ others)
-with_claims claims (Err fault) = Err fault

@@ -1,47 +1,29 @@
 -- A claimed history that is read can be judged: its config is settled, its commands are sound, and there are no more commands and no
 -- more claims than lines.
-use Rattle.std.proofs.Common.{◌≡◌, ℕ, ◌+◌, ◌<◌, ◌≤◌, nat_lt, true, Result, Ok, Err, List, [], ◌∷◌, length, codes, is_some, refl, sym, subst, arith}
+use Rattle.std.proofs.Common.{◌≡◌, ℕ, ◌+◌, ◌<◌, ◌≤◌, true, Result, Ok, Err, List, [], ◌∷◌, length, codes, is_some, refl, arith}
 use Rattle.std.specs.Prelude.{IfOk}
 use Rattle.std.specs.List.{AllByRecursion}
 use Rattle.std.proofs.lemmas.List.Elements.{All-from_recursion}
 use Rattle.std.proofs.lemmas.List.Sums.{list_all-from_AllPass}
-use Rattle.std.proofs.lemmas.Result.{IfOk-at_ok}
 use Rattle.rht_words.specs.Settled.{IsSettled}
 use Rattle.rht_model.specs.Answers.{port_of}
 use Rattle.rht_script.specs.declared.script.TableLine.{TableLine}
 use Rattle.rht_script.specs.declared.script.ScriptFault.{ScriptFault}
 use Rattle.rht_script.specs.declared.cause.Cause.{Cause}
 use Rattle.rht_script.specs.declared.cause.Cause.TheVariants.{UnknownWord}
-use Rattle.rht_script.specs.Spelling.{is_word, lines_of, is_skipped}
-use Rattle.rht_script.specs.TableLines.{table_of}
+use Rattle.rht_script.specs.Spelling.{is_word, is_skipped}
 use Rattle.rht_script.specs.CommandLines.{end_of, command_of}
-use Rattle.rht_script.specs.Grammar.{most_bytes, most_lines, at_line, words_at, coded}
+use Rattle.rht_script.specs.Grammar.{most_lines, at_line, words_at, lines_by}
 use Rattle.rht_script.specs.PortWords.{IsForm}
 use Rattle.rht_script.specs.Sound.{is_sound_command}
-use Rattle.rht_script.proofs.ReadLines.{IfOk-then, IfOk-after, IfOk-cond, IfOk-at_line, words_few}
-use Rattle.rht_script.proofs.SayableScripts.{IsSettledTable, HasForm, table_settled, table_form, command_sound}
+use Rattle.rht_script.proofs.ReadLines.{IfOk-then, IfOk-after, IfOk-cond, IfOk-at_line, AreLines, words_few, lines_hold, table_reading_holds}
+use Rattle.rht_script.proofs.SayableScripts.{IsTableSaid, table_said, command_sound}
 use Rattle.rht_check.specs.declared.claim.Claim.{Claim}
 use Rattle.rht_check.specs.declared.reader.AskedLine.{AskedLine}
 use Rattle.rht_check.specs.declared.reader.AskedLine.TheVariants.{Command, History}
 use Rattle.rht_check.specs.Claims.{Told, IsSoundClaim}
-use Rattle.rht_check.specs.ClaimLines.{about_bindings, asked_of, told_of, coded_at, IsSoundTable}
-use Rattle.rht_check.specs.Reading.{Asked, asked_by, asked_from, told_from, SaidClaim, claimed_with, claimed_from, claim_reading_of, said_by_claim, IsClaim}
-use Rattle.rht_check.proofs.LinesRead.{coded_at-coded}
-
--- ---- the table line
-
-both_hold : (read : Result TableLine Cause) → IfOk read IsSettledTable → IfOk read HasForm → IfOk read IsSoundTable
-both_hold (Ok table) settled form = record { settled = settled; form = form }
-both_hold (Err cause) settled form = tt
-
-pub table_sound : (words : List (List ℕ)) → IfOk (table_of words) IsSoundTable
-table_sound words = both_hold (table_of words) (table_settled words) (table_form words)
-
--- the same of what is read at a line
-pub coded_table_sound : (line : ℕ) (words : List (List ℕ)) → IfOk (coded_at line (coded (table_of words))) IsSoundTable
-coded_table_sound line words =
-    subst (λ r. IfOk r IsSoundTable) (sym (coded_at-coded line (table_of words)))
-    (IfOk-at_line IsSoundTable line (table_of words) (table_sound words))
+use Rattle.rht_check.specs.ClaimLines.{about_bindings, asked_of, told_of}
+use Rattle.rht_check.specs.Reading.{Asked, asked_by, asked_from, SaidClaim, claimed_with, claim_reading_of, said_by_claim, IsClaim}
 
 -- ---- the lines above the claims
 
@@ -94,30 +76,6 @@ module _ (table : TableLine) where
       (IfOk-at_line IsSoundLine number (asked_of table words) (line_sound words))
       (λ said sound. one_more number said lines (asked_from (number + 1) table lines) sound here behind)))
 
-  -- ---- the claims
-
-  abbrev AreFew : ℕ → List Told → Type 0
-  AreFew number claims = length claims + number ≤ 1000001
-
-  fewer : (number : ℕ) (read : Result (List Told) ScriptFault) → IfOk read (AreFew (number + 1)) → IfOk read (AreFew number)
-  fewer number (Ok claims) few = omega (arith, few)
-  fewer number (Err fault) few = tt
-
-  -- By induction over the lines.
-  told_hold : (number : ℕ) (lines : List (List ℕ)) → number ≤ 1000001 → IfOk (told_from number table lines) (AreFew number)
-  told_hold number [] few = omega (arith, few)
-  told_hold number (line ∷ lines) few =
-      IfOk-then (λ (words : List (List ℕ)). number ≤ most_lines) (AreFew number)
-      (at_line number (words_at number line)) _
-      (IfOk-at_line (λ words. number ≤ most_lines) number (words_at number line) (words_few number line))
-      (λ words here.
-      let behind = told_hold (number + 1) lines (omega (arith, here)) in
-      IfOk-cond (AreFew number) (is_skipped words) (told_from (number + 1) table lines) _
-      (fewer number (told_from (number + 1) table lines) behind)
-      (IfOk-after (AreFew number) (at_line number (told_of table words)) _ (λ first.
-      IfOk-then (AreFew (number + 1)) (AreFew number) (told_from (number + 1) table lines) _ behind
-      (λ others more. omega (arith, more)))))
-
 -- ---- the whole
 
 -- What is said can be judged.
@@ -129,35 +87,30 @@ record IsJudgeable (said : SaidClaim) : Type 0 where
   few : length said.script.commands ≤ most_lines
   claims : length said.claims ≤ most_lines
 
-with_hold : (table : TableLine) (number : ℕ) (lines : List (List ℕ)) → IsSoundTable table
+with_hold : (table : TableLine) (number : ℕ) (lines : List (List ℕ)) → IsTableSaid table → 1 < number → number ≤ 1000001
     → IfOk (claimed_with table number lines) IsJudgeable
-with_hold table number lines sound =
+with_hold table number lines is first few =
+    let Any : Told → Type 0 = λ told. Unit {0} in
     IfOk-then (AreAsked table number) IsJudgeable (asked_from number table lines) _ (asked_hold table number lines) (λ asked are.
-    IfOk-then (AreFew table asked.behind.number) IsJudgeable (told_from asked.behind.number table asked.behind.lines) _
-    (told_hold table asked.behind.number asked.behind.lines are.last) (λ told few. record {
-      settled = sound.settled;
-      form = sound.form;
+    IfOk-then (AreLines Any asked.behind.number) IsJudgeable (lines_by told_of asked.behind.number table asked.behind.lines) _
+    (lines_hold told_of Any table (λ words. any_told (told_of table words)) asked.behind.number asked.behind.lines are.last)
+    (λ told told_are. record {
+      settled = is.0;
+      form = is.1;
       commands = are.each;
       schedule = refl;
       few = (let more = are.few in let last = are.last in omega arith);
-      claims = (let more = are.few in omega (arith, few));
+      claims = (let more = are.few in let claims = told_are.few in omega (arith, more, claims));
     }))
-
-from_hold : (number : ℕ) (lines : List (List ℕ)) → IfOk (claimed_from number lines) IsJudgeable
-from_hold number [] = tt
-from_hold number (line ∷ lines) =
-    IfOk-after IsJudgeable (at_line number (words_at number line)) _ (λ words.
-    IfOk-cond IsJudgeable (is_skipped words) (claimed_from (number + 1) lines) _ (from_hold (number + 1) lines)
-    (IfOk-then IsSoundTable IsJudgeable (at_line number (table_of words)) _
-    (IfOk-at_line IsSoundTable number (table_of words) (table_sound words))
-    (λ table sound. with_hold table (number + 1) lines sound)))
+  where
+    any_told : (read : Result Told Cause) → IfOk read (λ told. Unit {0})
+    any_told (Ok told) = tt
+    any_told (Err cause) = tt
 
 pub IsSoundClaim-read : (bytes : List ℕ) (claim : Claim) → IsClaim bytes claim → IsSoundClaim claim
 unfolding claim_reading_of
 IsSoundClaim-read bytes claim read =
-    let are : IsJudgeable (said_by_claim claim) = IfOk-at_ok IsJudgeable read
-    (IfOk-cond IsJudgeable (nat_lt most_bytes (length bytes)) _ (claimed_from 1 (lines_of bytes)) tt
-    (from_hold 1 (lines_of bytes))) in
+    let are = table_reading_holds IsTableSaid IsJudgeable claimed_with table_said with_hold bytes (said_by_claim claim) read in
     record {
       script = record {
         settled = are.settled;

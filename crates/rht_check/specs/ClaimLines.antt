@@ -1,17 +1,14 @@
 -- What the words of a line stand for: of a line that asks, and of a line that claims. Words are read from left to right.
-use Rattle.std.specs.Prelude.{◌≡◌, ℕ, ◌-◌, ◌==◌, ◌&&◌, nat_lt, Bool, false, is_some, if◌then◌else◌, Result, Ok, Err, List, [], ◌∷◌, length, take, slice_index, codes}
+use Rattle.std.specs.Prelude.{ℕ, ◌-◌, ◌==◌, ◌&&◌, nat_lt, Bool, false, is_some, if◌then◌else◌, Result, Ok, Err, List, [], ◌∷◌, length, take, slice_index, codes}
 use Rattle.rht_model.specs.declared.history.Call.{Call}
 use Rattle.rht_model.specs.declared.history.Reply.{Reply}
 use Rattle.rht_model.specs.declared.history.Reply.TheVariants.{Bound, Exists, Found, Missing, Listed, Released, Absent, Rebound, TooBig, Busy, NoTable, NoNode}
 use Rattle.rht_model.specs.Answers.{port_of}
 use Rattle.rht_words.specs.declared.limits.Limits.{Limits}
-use Rattle.rht_words.specs.Settled.{IsSettled}
 use Rattle.rht_script.specs.declared.script.TableLine.{TableLine}
-use Rattle.rht_script.specs.declared.script.ScriptFault.{ScriptFault}
 use Rattle.rht_script.specs.declared.cause.Cause.{Cause}
 use Rattle.rht_script.specs.declared.cause.Cause.TheVariants.{UnknownWord}
 use Rattle.rht_script.specs.Spelling.{◌>>=◌, between, is_word, number_of}
-use Rattle.rht_script.specs.PortWords.{IsForm}
 use Rattle.rht_script.specs.CommandLines.{owner_limits, worker_limits, number_first, end_of, command_of}
 use Rattle.rht_check.specs.declared.reader.AskedLine.{AskedLine}
 use Rattle.rht_check.specs.declared.reader.AskedLine.TheVariants.{Command, History}
@@ -114,15 +111,3 @@ reply_of worker (name ∷ words) =
 unfoldable pub told_of : TableLine → List (List ℕ) → Result Told Cause
 told_of table [] = Err UnknownWord
 told_of table (word ∷ words) = worker_of table word >>= (λ worker. reply_of worker words)
-
--- ---- what the calls that read a line ask and answer
-
--- A table line whose config a table can be opened with, and that has a form which there is.
-pub record IsSoundTable (table : TableLine) : Type 0 where
-  pub settled : IsSettled table.config
-  pub form : IsForm table.form
-
--- what is read at this line, where causes are told by their numbers
-abbrev pub coded_at : {X : Type 0} → ℕ → Result X ℕ → Result X ScriptFault
-coded_at line (Ok value) = Ok value
-coded_at line (Err cause) = Err (record { line = line; cause = cause })

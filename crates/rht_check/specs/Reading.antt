@@ -1,16 +1,15 @@
 -- Which bytes are a claimed history and what it says, and where other bytes have their first fault.
 -- First come the lines of a script without a schedule, then a line `history`, and then the claims. Lines are read from the first to
 -- the last, and the first that is wrong is at fault.
-use Rattle.std.specs.Prelude.{◌≡◌, ℕ, ◌+◌, ◌==◌, nat_lt, if◌then◌else◌, Result, Ok, Err, List, [], ◌∷◌, length, take, count_by}
+use Rattle.std.specs.Prelude.{◌≡◌, ℕ, ◌+◌, if◌then◌else◌, Result, Ok, Err, List, [], ◌∷◌}
 use Rattle.rht_model.specs.declared.history.Call.{Call}
 use Rattle.rht_script.specs.declared.script.TableLine.{TableLine}
 use Rattle.rht_script.specs.declared.script.ScriptFault.{ScriptFault}
 use Rattle.rht_script.specs.declared.script.ReadError.{ReadError}
-use Rattle.rht_script.specs.declared.cause.Cause.TheVariants.{NoTableLine, UnknownWord, ScriptTooLong}
-use Rattle.rht_script.specs.Spelling.{◌>>=◌, lines_of, is_skipped}
-use Rattle.rht_script.specs.TableLines.{table_of}
+use Rattle.rht_script.specs.declared.cause.Cause.TheVariants.{UnknownWord}
+use Rattle.rht_script.specs.Spelling.{◌>>=◌, is_skipped}
 use Rattle.rht_script.specs.Cursors.{Unread}
-use Rattle.rht_script.specs.Grammar.{Said, most_bytes, fault_at, at_line, words_at}
+use Rattle.rht_script.specs.Grammar.{Said, fault_at, at_line, words_at, lines_by, from_table, reading_by}
 use Rattle.rht_script.specs.Reading.{said_by, IsReasonFor}
 use Rattle.rht_check.specs.declared.claim.Claim.{Claim}
 use Rattle.rht_check.specs.declared.reader.AskedLine.{AskedLine}
@@ -42,17 +41,6 @@ asked_from number table (line ∷ lines) = do
         said ← at_line number (asked_of table words)
         asked_by said (record { number = number + 1; lines = lines }) (asked_from (number + 1) table lines)
 
--- what is claimed in these lines, which are counted on from this number
-abbrev pub told_from : ℕ → TableLine → List (List ℕ) → Result (List Told) ScriptFault
-told_from number table [] = Ok []
-told_from number table (line ∷ lines) = do
-  words ← at_line number (words_at number line)
-  if is_skipped words then told_from (number + 1) table lines
-      else do
-        first ← at_line number (told_of table words)
-        others ← told_from (number + 1) table lines
-        Ok (first ∷ others)
-
 -- what a claimed history says: its script, and the claims in their order
 pub record SaidClaim : Type 0 where
   pub script : Said
@@ -66,25 +54,16 @@ asking table commands = record { config = table.config; auto = table.auto; form 
 abbrev pub claimed_with : TableLine → ℕ → List (List ℕ) → Result SaidClaim ScriptFault
 claimed_with table number lines = do
   asked ← asked_from number table lines
-  told ← told_from asked.behind.number table asked.behind.lines
+  told ← lines_by told_of asked.behind.number table asked.behind.lines
   Ok (record { script = asking table asked.commands; claims = told })
 
--- what is said in these lines: the first that isn't skipped is the table line
+-- what is said in these lines, which are counted on from this number
 abbrev pub claimed_from : ℕ → List (List ℕ) → Result SaidClaim ScriptFault
-claimed_from number [] = Err (fault_at number NoTableLine)
-claimed_from number (line ∷ lines) = do
-  words ← at_line number (words_at number line)
-  if is_skipped words then claimed_from (number + 1) lines
-      else do
-        table ← at_line number (table_of words)
-        claimed_with table (number + 1) lines
+claimed_from = from_table claimed_with
 
--- what the bytes say, or their first fault; of too many bytes the fault is at the line at which they become too many
+-- what the bytes say, or their first fault
 unfoldable pub claim_reading_of : List ℕ → Result SaidClaim ScriptFault
-claim_reading_of bytes =
-    if nat_lt most_bytes (length bytes)
-    then Err (fault_at (1 + count_by (λ byte. byte == 10) (take most_bytes bytes)) ScriptTooLong)
-    else claimed_from 1 (lines_of bytes)
+claim_reading_of bytes = reading_by claimed_from bytes
 
 -- what a claimed history says
 abbrev pub said_by_claim : Claim → SaidClaim

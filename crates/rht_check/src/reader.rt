@@ -2,21 +2,21 @@
 //!
 //! Stands on the cursors of `rht_script`, and reads table lines and commands as scripts have them.
 
-ghost use Rattle.std.specs.Prelude.{◌≡◌, Ok, Err, IfOk, IfErr, MatchResult, is_some};
+ghost use Rattle.std.specs.Prelude.{◌≡◌, Ok, IfOk, IfErr, is_some};
 ghost use Rattle.rht_model.specs.Answers.{port_of};
-ghost use Rattle.rht_script.specs.Grammar.{at_line};
-ghost use Rattle.rht_script.specs.Spelling.{between, words_of};
+ghost use Rattle.rht_script.specs.Grammar.{at_line, lines_by};
+ghost use Rattle.rht_script.specs.Spelling.{between};
 ghost use Rattle.rht_script.specs.CommandLines.{owner_limits};
 ghost use Rattle.rht_script.specs.Reading.{IsReasonFor};
 ghost use Rattle.rht_check.specs.Claims.{IsSoundClaim};
-ghost use Rattle.rht_check.specs.ClaimLines.{history_of, about_bindings, asked_of, worker_of, ends_with_colon, plain_of, bare_reply, busy_of, last_number, owners_of, list_of, reply_of, told_of, coded_at, IsSoundTable};
-ghost use Rattle.rht_check.specs.Reading.{IsClaim, IsClaimReason, asked_from, told_from, claimed_with, claimed_from};
+ghost use Rattle.rht_check.specs.ClaimLines.{history_of, about_bindings, asked_of, worker_of, ends_with_colon, plain_of, bare_reply, busy_of, last_number, owners_of, list_of, reply_of, told_of};
+ghost use Rattle.rht_check.specs.Reading.{IsClaim, IsClaimReason, asked_from};
 
 use crate::claim::Claim;
 use rht_model::{Call, Owners, Reply};
 use rht_script::{
-    Cause, Lines, MOST_BYTES, ReadError, Script, ScriptFault, TableLine, Words, at_line,
-    command_line, number_of, table_line, too_long,
+    Cause, Lines, ReadError, Script, TableLine, Words, at_line, command, first_table,
+    number_within, worker_limits,
 };
 use rht_words::Limits;
 use std::alloc::Global;
@@ -70,11 +70,7 @@ pub fn read_claim(alloc: Global, bytes: &[u8]) -> Result<Claim, ReadError>
     ensures sound { IfOk result IsSoundClaim }
     ensures reason { IfErr result (IsClaimReason bytes.now) }
 {
-    if bytes.len() > MOST_BYTES {
-        return Err(ReadError::Fault(too_long(bytes)));
-    }
-    let mut lines = Lines::new(bytes);
-    let table = first_table(&mut lines)?;
+    let (table, mut lines) = first_table(bytes)?;
     let commands = commands_above(alloc, &table, &mut lines)?;
     let claims = claims_below(alloc, &table, lines)?;
     Ok(Claim {
@@ -89,29 +85,12 @@ pub fn read_claim(alloc: Global, bytes: &[u8]) -> Result<Claim, ReadError>
     })
 }
 
-/// What the table line says, which is the first line that isn't skipped.
-fn first_table(lines: &mut Lines) -> Result<TableLine, ScriptFault>
-    ensures table { MatchResult result
-        (λ table. claimed_from lines.old.number lines.old.lines ≡ claimed_with table lines.new.number lines.new.lines)
-        (λ fault. claimed_from lines.old.number lines.old.lines ≡ Err fault) }
-    ensures sound { IfOk result IsSoundTable }
-{
-    while let Some(next) = lines.next() {
-        let (number, line) = next?;
-        if !Words::new(line).is_skipped() {
-            return coded_at(number, table_line(line));
-        }
-    }
-    Err(Cause::NoTableLine.at(lines.number()))
-}
-
 /// The commands of the lines above the claims. The lines that are left are those of the claims.
 fn commands_above(
     alloc: Global,
     table: &TableLine,
     lines: &mut Lines,
 ) -> Result<Vec<(u32, Call)>, ReadError>
-    requires { IsSoundTable table.now }
     ensures asked { IfOk result (λ commands. asked_from lines.old.number table.now lines.old.lines
         ≡ Ok (record { commands = commands.items; behind = lines.new })) }
     ensures reason { IfErr result (IsReasonFor (asked_from lines.old.number table.now lines.old.lines)) }
@@ -119,8 +98,9 @@ fn commands_above(
     let mut commands = Vec::new(alloc);
     while let Some(next) = lines.next() {
         let (number, line) = next?;
-        if !Words::new(line).is_skipped() {
-            match asked(number, table, line)? {
+        let words = Words::new(line);
+        if !words.is_skipped() {
+            match at_line(number, asked(table, words))? {
                 AskedLine::Command(command) => commands.push(command)?,
                 AskedLine::History => return Ok(commands),
             }
@@ -135,9 +115,8 @@ fn claims_below(
     table: &TableLine,
     mut lines: Lines,
 ) -> Result<Vec<(u32, Reply, Owners)>, ReadError>
-    requires { IsSoundTable table.now }
-    ensures told { IfOk result (λ claims. told_from lines.entry.number table.now lines.entry.lines ≡ Ok claims.items) }
-    ensures reason { IfErr result (IsReasonFor (told_from lines.entry.number table.now lines.entry.lines)) }
+    ensures told { IfOk result (λ claims. lines_by told_of lines.entry.number table.now lines.entry.lines ≡ Ok claims.items) }
+    ensures reason { IfErr result (IsReasonFor (lines_by told_of lines.entry.number table.now lines.entry.lines)) }
 {
     let mut claims = Vec::new(alloc);
     while let Some(next) = lines.next() {
@@ -150,20 +129,16 @@ fn claims_below(
     Ok(claims)
 }
 
-/// What a line says that isn't skipped, below the table line and above the claims.
-fn asked(number: u32, table: &TableLine, line: &[u8]) -> Result<AskedLine, ScriptFault>
-    requires { IsSoundTable table.now }
-    ensures { result ≡ at_line number (asked_of table.now (words_of line.now)) }
+/// What a line of these words says, below the table line and above the claims.
+#[tactic(auto, unfolding(crate::specs::ClaimLines::asked_of))]
+fn asked(table: &TableLine, mut words: Words) -> Result<AskedLine, Cause>
+    ensures { result ≡ asked_of table.now words.entry }
 {
-    let mut words = Words::new(line);
-    let Some(word) = words.next() else {
-        return Err(Cause::UnknownWord.at(number));
-    };
-    if word == HISTORY {
-        return at_line(number, history(words));
+    let first = words.next().ok_or(Cause::UnknownWord)?;
+    if first == HISTORY {
+        return history(words);
     }
-    let command = coded_at(number, command_line(line, table))?;
-    at_line(number, about_bindings(command))
+    about_bindings(command(table, first, words)?)
 }
 
 /// The line that ends the commands, behind whose word no other stands.
@@ -206,28 +181,28 @@ fn told(
     table: &TableLine,
     mut words: Words,
 ) -> Result<(u32, Reply, Owners), ReadError>
-    requires { IsSoundTable table.now }
     ensures told { IfOk result (λ told. at_line number (told_of table.now words.entry) ≡ Ok told) }
     ensures reason { IfErr result (IsReasonFor (at_line number (told_of table.now words.entry))) }
 {
     let Some(word) = words.next() else {
         return Err(ReadError::Fault(Cause::UnknownWord.at(number)));
     };
-    let worker = worker(number, table, word)?;
+    let worker = at_line(number, worker(table, word))?;
     reply(alloc, number, worker, words)
 }
 
 /// The worker of a claim's first word, which ends with a colon.
-fn worker(number: u32, table: &TableLine, word: &[u8]) -> Result<u32, ScriptFault>
-    requires { IsSoundTable table.now }
-    ensures { result ≡ at_line number (worker_of table.now word.now) }
+#[tactic(auto, unfolding(crate::specs::ClaimLines::worker_of))]
+fn worker(table: &TableLine, word: &[u8]) -> Result<u32, Cause>
+    ensures { result ≡ worker_of table.now word.now }
 {
     if !ends_with_colon(word) {
-        return Err(Cause::UnknownWord.at(number));
+        return Err(Cause::UnknownWord);
     }
-    let front = &word[..word.len().saturating_sub(1)];
-    let worker = coded_at(number, number_of(front, 1, table.config.callers.into()))?;
-    Ok(worker as u32)
+    number_within(
+        worker_limits(&table.config),
+        &word[..word.len().saturating_sub(1)],
+    )
 }
 
 /// Whether the word ends with a colon.
@@ -281,8 +256,8 @@ fn owners(alloc: Global, number: u32, mut words: Words) -> Result<Owners, ReadEr
 {
     let mut owners = Owners::new(alloc);
     while let Some(word) = words.next() {
-        let owner = coded_at(number, number_of(word, 0, 4_294_967_295))?;
-        owners.push(owner as u32)?;
+        let owner = at_line(number, number_within(NUMBER, word))?;
+        owners.push(owner)?;
     }
     Ok(owners)
 }
@@ -358,14 +333,4 @@ fn last_long_number(mut words: Words) -> Result<u64, Cause>
     let number = words.long_number()?;
     words.end()?;
     Ok(number)
-}
-
-/// What was read at a line, where causes are told by their numbers.
-fn coded_at<T>(line: u32, read: Result<T, u8>) -> Result<T, ScriptFault>
-    ensures { result ≡ coded_at line read }
-{
-    match read {
-        Ok(value) => Ok(value),
-        Err(cause) => Err(ScriptFault { line, cause }),
-    }
 }

@@ -2,10 +2,6 @@
 pub mod FirstLeases
 -- how answers are kept when one more is
 pub mod KeptLists
--- what the calls that read a line answer
-pub mod LinesRead
--- the parts of a lease script, read one after another
-pub mod LeaseReadings
 -- a lease script that is read can be run
 pub mod SoundScripts
 -- what stands at a place of answers and of workers

@@ -2,11 +2,11 @@
 
 ghost use Rattle.std.specs.Prelude.{◌≡◌, ◌↔◌, IsTrue};
 ghost use Rattle.std.specs.List.{list_all};
-ghost use Rattle.rht_script.specs.CommandLines.{worker_limits};
 ghost use Rattle.rht_lease.specs.Scripts.{is_plain_call, is_sound_ask, is_sound_command, IsSoundLeases};
 
 use rht_model::{Call, Reply};
-use rht_words::{Config, Limits, Port};
+use rht_script::worker_limits;
+use rht_words::{Config, Port};
 
 /// A binding that ends, of a port to an owner.
 #[derive(Clone, Copy, Debug, PartialEq, Eq)]
@@ -96,7 +96,7 @@ fn are_sound(config: &Config, commands: &[(u32, LeaseCall)]) -> bool
 fn is_sound_command(config: &Config, command: (u32, LeaseCall)) -> bool
     ensures { result ≡ is_sound_command config.now command }
 {
-    workers(config).allow(command.0) && is_sound_ask(command.1)
+    worker_limits(config).allow(command.0) && is_sound_ask(command.1)
 }
 
 /// Whether a plain call is such as lease scripts have.
@@ -122,15 +122,5 @@ pub(crate) fn is_plain_call(call: Call) -> bool
         | Call::Rebind { .. }
         | Call::Count => true,
         Call::Walk { .. } | Call::Work | Call::Tidy => false,
-    }
-}
-
-/// The numbers of workers, which are the callers of the table, counted from 1.
-pub(crate) fn workers(config: &Config) -> Limits
-    ensures { result ≡ worker_limits config.now }
-{
-    Limits {
-        least: 1,
-        greatest: config.callers,
     }
 }

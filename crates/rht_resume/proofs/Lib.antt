@@ -6,10 +6,6 @@ pub mod WalkSteps
 pub mod NextWalks
 -- how answers are kept when one more is
 pub mod KeptLists
--- what the calls that read a line answer
-pub mod LinesRead
--- the parts of a resume script, read one after another
-pub mod ResumeReadings
 -- a resume script that is read can be run
 pub mod SoundScripts
 -- what stands at a place of answers and of workers

@@ -2,11 +2,10 @@
 
 ghost use Rattle.std.specs.Prelude.{◌≡◌, ◌↔◌, IsTrue};
 ghost use Rattle.std.specs.List.{list_all};
-ghost use Rattle.rht_script.specs.CommandLines.{worker_limits};
-ghost use Rattle.rht_script.specs.Sound.{is_sound_call};
 ghost use Rattle.rht_resume.specs.Scripts.{limits_of_pieces, is_sound_ask, is_sound_command, IsSoundResume};
 
 use rht_model::{Call, Reply};
+use rht_script::{is_sound_call, worker_limits};
 use rht_words::{Config, Limits};
 
 /// What a `next` is answered. The pairs of the piece come beside it.
@@ -79,7 +78,7 @@ fn are_sound(config: &Config, commands: &[(u32, ResumeCall)]) -> bool
 fn is_sound_command(config: &Config, command: (u32, ResumeCall)) -> bool
     ensures { result ≡ is_sound_command config.now command }
 {
-    workers(config).allow(command.0) && is_sound_ask(config, command.1)
+    worker_limits(config).allow(command.0) && is_sound_ask(config, command.1)
 }
 
 /// Whether a plain call is such as scripts have, and a piece has a size that may be asked for.
@@ -89,27 +88,6 @@ fn is_sound_ask(config: &Config, ask: ResumeCall) -> bool
     match ask {
         ResumeCall::Plain(call) => is_sound_call(config, call),
         ResumeCall::Next { limit } => pieces(config).allow(limit),
-    }
-}
-
-/// Whether scripts have the call: a bind is tried until it ends, and a walk goes over the whole table.
-fn is_sound_call(config: &Config, call: Call) -> bool
-    ensures { result ≡ is_sound_call config.now call }
-{
-    match call {
-        Call::Bind { once, .. } => !once,
-        Call::Walk { from, limit } => from.is_none() && limit == config.nodes,
-        _ => true,
-    }
-}
-
-/// The numbers of workers, which are the callers of the table, counted from 1.
-pub(crate) fn workers(config: &Config) -> Limits
-    ensures { result ≡ worker_limits config.now }
-{
-    Limits {
-        least: 1,
-        greatest: config.callers,
     }
 }
 

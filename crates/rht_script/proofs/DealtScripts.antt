@@ -1,6 +1,6 @@
 -- A dealt script that is read can be run: its config is settled, and each command is nobody's yet, has numbers that can be said, and is one
 -- that any worker may do. Its lines say no schedule.
-use Rattle.std.proofs.Common.{◌≡◌, ℕ, ◌≤◌, ◌==◌, ◌&&◌, Bool, true, false, cond, Result, Ok, Err, List, [], ◌∷◌, codes, refl, arith}
+use Rattle.std.proofs.Common.{◌≡◌, ℕ, ◌==◌, ◌&&◌, Bool, true, false, cond, Result, Ok, Err, List, [], ◌∷◌, codes, refl, arith}
 use Rattle.std.specs.Prelude.{IfOk}
 use Rattle.std.specs.List.{AllByRecursion}
 use Rattle.std.proofs.lemmas.Bool.{eq-eqb, and_from}

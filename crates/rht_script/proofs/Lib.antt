@@ -12,7 +12,7 @@ pub mod OptionLemmas
 pub mod LineLemmas
 -- what holds of each line below the table line that is read
 pub mod ReadLines
--- the two ways to read bytes
+-- the two ways to read bytes, and the parts of a text, read one after another
 pub mod ReadingLemmas
 -- the first fault of an input, and the lines before it and behind it
 pub mod FirstFaults
@@ -26,6 +26,8 @@ pub mod PortTexts
 pub mod PlainScripts
 -- whatever is read can be said
 pub mod SayableScripts
+-- how a text of commands of any kind is read, and that it can be run
+pub mod CommandTexts
 -- a dealt script that is read can be run
 pub mod DealtScripts
 -- the script of a number can be said, and what it has

@@ -15,6 +15,11 @@ with_front said (Ok lines) = Ok (record said {
 })
 with_front said (Err fault) = Err fault
 
+-- these, and then those that are read
+abbrev pub with_items : {X : Type 0} → List X → Result (List X) ScriptFault → Result (List X) ScriptFault
+with_items items (Ok others) = Ok (items ++ others)
+with_items items (Err fault) = Err fault
+
 -- behind a table line alone come all lines
 pub with_front-table : (table : TableLine) (read : Result (List ScriptLine) ScriptFault)
     → with_front (said_of table []) read ≡ (read >>= (λ lines. Ok (said_of table lines)))

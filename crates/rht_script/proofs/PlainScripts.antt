@@ -31,7 +31,7 @@ use Rattle.rht_script.specs.declared.options.Options.{Options}
 use Rattle.rht_script.specs.Spelling.{◌>>=◌, lines_of, is_skipped, number_of}
 use Rattle.rht_script.specs.Grammar.{most_lines, most_in_line, words_at, lines_from, said_from}
 use Rattle.rht_script.specs.TableLines.{no_options, kind_of, with_setting, setting_of, options_from, configured, sizes_agree, has_room, rounded_min, config_of, table_of}
-use Rattle.rht_script.specs.CommandLines.{owner_limits, worker_limits, bind_of, find_of, all_of, release_of, rebind_of, bare_of, call_of, command_of}
+use Rattle.rht_script.specs.CommandLines.{owner_limits, worker_limits, bind_of, find_of, all_of, release_of, rebind_of, bare_of, call_of, worker_of, command_of}
 use Rattle.rht_script.specs.PortWords.{form_limits, IsForm}
 use Rattle.rht_script.specs.ScheduleLines.{event_limits, events_of}
 use Rattle.rht_script.specs.ScriptLines.{line_of, commands_among, schedule_among}
@@ -125,7 +125,7 @@ module _ (table : TableLine) (callers : table.config.callers < 2 ^ 32) where
 
   command_of-plain : (command : ℕ × Call) → IsSayableCommand table.form table.config command
       → command_of table (command_words command) ≡ Ok command
-  unfolding command_of
+  unfolding command_of worker_of
   command_of-plain command sayable =
       let other = BeginsNoSchedule-decimal command.0 (omega (arith, sayable.0, callers)) in
       let worker_is = worker_read command.0 sayable.0 in

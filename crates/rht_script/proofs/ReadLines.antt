@@ -19,9 +19,9 @@ use Rattle.rht_script.specs.declared.script.ScriptLine.{ScriptLine}
 use Rattle.rht_script.specs.declared.script.ScriptLine.TheVariants.{Command, Schedule}
 use Rattle.rht_script.specs.declared.cause.Cause.{Cause}
 use Rattle.rht_script.specs.declared.cause.Cause.TheVariants.{BadNumber, OutOfRange, UnknownWord, TooManyLines, LineTooLong}
-use Rattle.rht_script.specs.Grammar.{most_bytes, most_lines, most_in_line, at_line, words_at, lines_by, Said, script_by, reading_by, reading_of}
+use Rattle.rht_script.specs.Grammar.{most_bytes, most_lines, most_in_line, at_line, words_at, lines_by, from_table, Said, below_by, script_by, reading_by, reading_of}
 use Rattle.rht_script.specs.TableLines.{table_of}
-use Rattle.rht_script.specs.CommandLines.{owner_limits, worker_limits, number_first, port_first, end_of, bind_of, find_of, all_of, release_of, rebind_of, bare_of, whole_walk, call_of, begins_schedule, command_of}
+use Rattle.rht_script.specs.CommandLines.{owner_limits, worker_limits, number_first, port_first, end_of, bind_of, find_of, all_of, release_of, rebind_of, bare_of, whole_walk, call_of, begins_schedule, worker_of, worker_first, asked_by, command_of}
 use Rattle.rht_script.specs.ScheduleLines.{event_limits, events_of}
 use Rattle.rht_script.specs.ScriptLines.{scheduled, line_of, commands_among, schedule_among}
 use Rattle.rht_script.specs.PortWords.{net_and_number, IsPortIn, net_limits, port_number_limits, cut_of, port_in, port_of_parts, port_of_word}
@@ -109,7 +109,7 @@ module _ (form : ℕ) where
       (port_named word) (λ port named. named)
 
 -- the number that the next word stands for is within its limits
-first_within : (limits : Limits) (words : List (List ℕ))
+pub first_within : (limits : Limits) (words : List (List ℕ))
     → IfOk (number_first limits words) (λ read. is_within limits read.0 ≡ true)
 first_within limits [] = tt
 first_within limits (word ∷ words) =
@@ -203,20 +203,40 @@ module _ (table : TableLine) (Q : Call → Type 0) (holds : HoldsOfCalls table Q
       (IfOk-cond Q (is_word verb (codes "tidy")) _ _ (bare_holds Tidy holds.tidy words)
       (IfOk-cond Q (is_word verb (codes "count")) _ (Err UnknownWord) (bare_holds Count holds.count words) tt))))))))
 
+-- the worker that a line begins with is one of the workers
+worker_within : (config : Config) (word : List ℕ)
+    → IfOk (worker_of config word) (λ worker. is_within (worker_limits config) worker ≡ true)
+unfolding worker_of
+worker_within config word =
+    let limits = worker_limits config in
+    IfOk-cond (λ worker. is_within limits worker ≡ true) (begins_schedule word) (Err UnknownWord) (number_of limits word) tt
+    (number_within limits word)
+
+worker_first_within : (config : Config) (words : List (List ℕ))
+    → IfOk (worker_first config words) (λ read. is_within (worker_limits config) read.0 ≡ true)
+worker_first_within config [] = tt
+worker_first_within config (word ∷ words) =
+    let limits = worker_limits config in
+    IfOk-then (λ worker. is_within limits worker ≡ true) (λ (read : ℕ × List (List ℕ)). is_within limits read.0 ≡ true)
+    (worker_of config word) _ (worker_within config word) (λ worker within. within)
+
+module _ {X : Type 0} (P : ℕ × X → Type 0) (Q : X → Type 0) (ask_of : List (List ℕ) → Result X Cause) (config : Config)
+    (both : (worker : ℕ) (ask : X) → is_within (worker_limits config) worker ≡ true → Q ask → P (worker, ask))
+    (each : (words : List (List ℕ)) → IfOk (ask_of words) Q) where
+  -- what holds of what a worker asks holds of the whole line
+  pub asked_holds : (words : List (List ℕ)) → IfOk (asked_by ask_of config words) P
+  asked_holds words =
+      IfOk-then (λ (read : ℕ × List (List ℕ)). is_within (worker_limits config) read.0 ≡ true) P (worker_first config words) _
+      (worker_first_within config words) (λ worker within.
+      IfOk-then Q P (ask_of worker.1) _ (each worker.1) (λ ask holds. both worker.0 ask within holds))
+
 module _ (P : ℕ × Call → Type 0) (Q : Call → Type 0) (table : TableLine)
     (both : (worker : ℕ) (call : Call) → is_within (worker_limits table.config) worker ≡ true → Q call
     → P (worker, call))
     (each : (words : List (List ℕ)) → IfOk (call_of table words) Q) where
-  -- what holds of a worker's calls holds of a command line
   pub command_holds : (words : List (List ℕ)) → IfOk (command_of table words) P
   unfolding command_of
-  command_holds [] = tt
-  command_holds (worker ∷ words) =
-      let limits = worker_limits table.config in
-      IfOk-cond P (begins_schedule worker) (Err UnknownWord) _ tt
-      (IfOk-then (λ number. is_within limits number ≡ true) P (number_of limits worker) _
-      (number_within limits worker) (λ number within.
-      IfOk-then Q P (call_of table words) _ (each words) (λ call holds. both number call within holds)))
+  command_holds words = asked_holds P Q (call_of table) table.config both each words
 
 -- ---- a schedule line
 
@@ -272,7 +292,7 @@ module _ (P : ℕ × Call → Type 0) (Q : Sched → Type 0) (table : TableLine)
 -- ---- all lines below the table line
 
 -- These are said by lines that are counted on from this number.
-pub record AreLines (P : ScriptLine → Type 0) (number : ℕ) (lines : List ScriptLine) : Type 0 where
+pub record AreLines {X : Type 0} (P : X → Type 0) (number : ℕ) (lines : List X) : Type 0 where
   pub each : AllByRecursion P lines
   pub few : length lines + number ≤ 1000001
 
@@ -287,7 +307,7 @@ words_few number line = by_test (nat_lt most_lines number) refl
         IfOk-cond (λ words. number ≤ most_lines) (nat_lt most_in_line (length line)) (Err LineTooLong)
         (Ok (words_of line)) tt (ltb-false most_lines number is)
 
-module _ (line_by : TableLine → List (List ℕ) → Result ScriptLine Cause) (P : ScriptLine → Type 0) (table : TableLine)
+module _ {X : Type 0} (line_by : TableLine → List (List ℕ) → Result X Cause) (P : X → Type 0) (table : TableLine)
     (each : (words : List (List ℕ)) → IfOk (line_by table words) P) where
   -- By induction over the lines: a line that is skipped says nothing, and any other is one more.
   pub lines_hold : (number : ℕ) (lines : List (List ℕ)) → number ≤ 1000001
@@ -307,10 +327,34 @@ module _ (line_by : TableLine → List (List ℕ) → Result ScriptLine Cause) (
       (lines_by line_by (number + 1) table lines) _ behind (λ others are.
       record { each = (holds, are.each); few = (let more = are.few in omega arith) }))))
     where
-      earlier : (read : Result (List ScriptLine) ScriptFault) → IfOk read (AreLines P (number + 1))
+      earlier : (read : Result (List X) ScriptFault) → IfOk read (AreLines P (number + 1))
           → IfOk read (AreLines P number)
       earlier (Ok others) are = record { each = are.each; few = (let more = are.few in omega arith) }
       earlier (Err fault) are = tt
+
+-- ---- a table line, and what is said below it
+
+module _ {X : Type 0} (T : TableLine → Type 0) (P : X → Type 0) (below : TableLine → ℕ → List (List ℕ) → Result X ScriptFault)
+    (tables : (words : List (List ℕ)) → IfOk (table_of words) T)
+    (holds : (table : TableLine) (number : ℕ) (lines : List (List ℕ)) → T table → 1 < number → number ≤ 1000001
+    → IfOk (below table number lines) P) where
+  -- By induction over the lines up to the table line.
+  from_table_holds : (number : ℕ) (lines : List (List ℕ)) → 1 ≤ number → IfOk (from_table below number lines) P
+  from_table_holds number [] first = tt
+  from_table_holds number (line ∷ lines) first =
+      IfOk-then (λ (words : List (List ℕ)). number ≤ most_lines) P
+      (at_line number (words_at number line)) _
+      (IfOk-at_line (λ words. number ≤ most_lines) number (words_at number line) (words_few number line))
+      (λ words here.
+      IfOk-cond P (is_skipped words) (from_table below (number + 1) lines) _ (from_table_holds (number + 1) lines (omega arith))
+      (IfOk-then T P (at_line number (table_of words)) _ (IfOk-at_line T number (table_of words) (tables words)) (λ table is.
+      holds table (number + 1) lines is (omega (arith, first)) (omega (arith, here)))))
+
+  pub table_reading_holds : (bytes : List ℕ) (said : X) → reading_by (from_table below) bytes ≡ Ok said → P said
+  table_reading_holds bytes said read =
+      IfOk-at_ok P read
+      (IfOk-cond P (nat_lt most_bytes (length bytes)) _ (from_table below 1 (lines_of bytes)) tt
+      (from_table_holds 1 (lines_of bytes) (omega arith)))
 
 -- ---- commands and schedule apart
 
@@ -347,35 +391,25 @@ pub record AreSaid (P : ℕ → Config → ℕ × Call → Type 0) (Q : Config �
 module _ (line_by : TableLine → List (List ℕ) → Result ScriptLine Cause) (P : ℕ → Config → ℕ × Call → Type 0) (Q : Config → Sched → Type 0)
     (line : (table : TableLine) (words : List (List ℕ))
     → IfOk (line_by table words) (HoldsOfLine (P table.form table.config) (Q table.config))) where
-  -- By induction over the lines up to the table line.
-  said_hold : (number : ℕ) (lines : List (List ℕ)) → 1 ≤ number → number ≤ 1000001
-      → IfOk (script_by line_by number lines) (AreSaid P Q)
-  said_hold number [] first few = tt
-  said_hold number (line' ∷ lines) first few =
-      IfOk-then (λ (words : List (List ℕ)). number ≤ most_lines) (AreSaid P Q)
-      (at_line number (words_at number line')) _
-      (IfOk-at_line (λ words. number ≤ most_lines) number (words_at number line') (words_few number line'))
-      (λ words here.
-      IfOk-cond (AreSaid P Q) (is_skipped words) (script_by line_by (number + 1) lines) _
-      (said_hold (number + 1) lines (omega arith) (omega (arith, here)))
-      (IfOk-after (AreSaid P Q) (at_line number (table_of words)) _ (λ table.
+  pub reading_by_holds : (bytes : List ℕ) (said : Said) → reading_by (script_by line_by) bytes ≡ Ok said → AreSaid P Q said
+  reading_by_holds =
+      table_reading_holds (λ table. Unit {0}) (AreSaid P Q) (below_by line_by) (λ words. any_table (table_of words))
+      (λ table number lines is first few.
       let Commands = P table.form table.config in
       let Schedules = Q table.config in
-      IfOk-then (AreLines (HoldsOfLine Commands Schedules) (number + 1)) (AreSaid P Q)
-      (lines_by line_by (number + 1) table lines) _
-      (lines_hold line_by (HoldsOfLine Commands Schedules) table (line table) (number + 1) lines (omega (arith, here)))
+      IfOk-then (AreLines (HoldsOfLine Commands Schedules) number) (AreSaid P Q)
+      (lines_by line_by number table lines) _
+      (lines_hold line_by (HoldsOfLine Commands Schedules) table (line table) number lines few)
       (λ others are.
       record {
         commands = commands_hold Commands Schedules others are.each;
         schedule = schedule_holds Commands Schedules others are.each;
-        few = (let more = are.few in omega (arith, length-among others));
-      }))))
-
-  pub reading_by_holds : (bytes : List ℕ) (said : Said) → reading_by (script_by line_by) bytes ≡ Ok said → AreSaid P Q said
-  reading_by_holds bytes said read =
-      IfOk-at_ok (AreSaid P Q) read
-      (IfOk-cond (AreSaid P Q) (nat_lt most_bytes (length bytes)) _ (script_by line_by 1 (lines_of bytes)) tt
-      (said_hold 1 (lines_of bytes) (omega arith) (omega arith)))
+        few = (let more = are.few in omega (arith, first, length-among others));
+      }))
+    where
+      any_table : (read : Result TableLine Cause) → IfOk read (λ table. Unit {0})
+      any_table (Ok table) = tt
+      any_table (Err cause) = tt
 
 -- where lines below the table line are commands and lines of the schedule
 module _ (P : ℕ → Config → ℕ × Call → Type 0) (Q : Config → Sched → Type 0)

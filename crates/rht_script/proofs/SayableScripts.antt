@@ -1,12 +1,12 @@
 -- Whatever is read, today's words can say. Each number of an option is read within its limits, so the options are
 -- allowed, and where their first table has room their config is settled. Each command is read with its worker, port and
 -- owner within their limits, and each line of the schedule with its worker and its number (`ReadLines`).
-use Rattle.std.proofs.Common.{◌≡◌, ℕ, ◌+◌, ◌*◌, ◌^◌, ◌==◌, Bool, true, false, not, ◌&&◌, cond, Option, Some, None, inl, inr, Result, Ok, Err, List, [], ◌∷◌, length, codes, refl, ap, ◌∙◌, arith}
+use Rattle.std.proofs.Common.{◌≡◌, ℕ, ◌*◌, ◌^◌, ◌==◌, Bool, true, false, not, ◌&&◌, cond, Option, Some, None, inl, inr, Result, Ok, Err, List, [], ◌∷◌, codes, refl, ap, ◌∙◌, arith}
 use Rattle.std.specs.Prelude.{IfOk, IfSome, unwrap_or, nat_le, nat_lt}
 use Rattle.std.proofs.lemmas.Bool.{le-leb, leb-true, lt-ltb, eq-eqb, and_from, and_parts, or_right}
 use Rattle.std.proofs.lemmas.List.Elements.{All-from_recursion, All-weaker}
 use Rattle.std.proofs.lemmas.List.Sums.{list_all-from_AllPass}
-use Rattle.std.proofs.lemmas.Result.{IfOk-at_ok, IfOk-weaker}
+use Rattle.std.proofs.lemmas.Result.{IfOk-weaker}
 use Rattle.rht_words.specs.declared.config.Config.{Config}
 use Rattle.rht_words.specs.declared.config.Kind.{Kind}
 use Rattle.rht_words.specs.declared.limits.Limits.{Limits}
@@ -27,12 +27,12 @@ use Rattle.rht_script.specs.declared.cause.Cause.TheVariants.{NoTableLine, Unkno
 use Rattle.rht_script.specs.declared.options.Setting.{Setting}
 use Rattle.rht_script.specs.declared.options.Setting.TheVariants.{Nodes, Hint, Min, Max, Pages, Workers, Seed, Rewalks, Form}
 use Rattle.rht_script.specs.declared.options.Options.{Options}
-use Rattle.rht_script.specs.Spelling.{is_word, is_within, number_of, lines_of, is_skipped}
+use Rattle.rht_script.specs.Spelling.{is_word, is_within, number_of}
 use Rattle.rht_script.specs.TableLines.{numbered, kind_of, hash_of, switch_of, auto_of, setting_of, no_options, with_setting, options_from, configured, sizes_agree, has_room, config_of, table_of}
 use Rattle.rht_script.specs.CommandLines.{owner_limits, worker_limits, whole_walk, call_of, command_of}
 use Rattle.rht_script.specs.PortWords.{one_number, net_and_number, form_limits, IsForm, IsPortIn, is_port_in}
 use Rattle.rht_script.specs.ScheduleLines.{event_limits}
-use Rattle.rht_script.specs.Grammar.{most_bytes, coded, at_line, words_at, Said, lines_by, script_by, reading_by, reading_of}
+use Rattle.rht_script.specs.Grammar.{coded, Said, lines_by, below_by, script_by, reading_by, reading_of}
 use Rattle.rht_script.specs.ScriptLines.{line_of}
 use Rattle.rht_script.specs.Allowed.{IsAllowed, AreAllowed}
 use Rattle.rht_script.specs.Plain.{IsSayableCall, IsSayableCommand, IsSayableSched, IsSayable}
@@ -40,7 +40,7 @@ use Rattle.rht_script.specs.Reading.{said_by}
 use Rattle.rht_script.specs.Sound.{is_sound_call, has_sound_numbers, is_sound_command, is_sound_line, IsSoundScript}
 use Rattle.rht_script.specs.Laws.{PlainPorts, SaysSayable}
 use Rattle.rht_script.proofs.ConfigLemmas.{IsSettled-configured}
-use Rattle.rht_script.proofs.ReadLines.{IfOk-then, IfOk-after, IfOk-cond, IfOk-at_line, number_within, IsWithinLimits-test, call_holds, command_holds, AreEvents, HoldsOfSchedule, reading_holds}
+use Rattle.rht_script.proofs.ReadLines.{IfOk-then, IfOk-after, IfOk-cond, number_within, IsWithinLimits-test, call_holds, command_holds, table_reading_holds, AreEvents, HoldsOfSchedule, reading_holds}
 
 -- ---- options
 
@@ -181,38 +181,25 @@ table_form (table ∷ kind ∷ words) =
 -- ---- the whole script
 
 -- what is said has a config that a table can be opened with, and a form that there is, as the table line decides
-abbrev IsTableSaid : TableLine → Type 0
+abbrev pub IsTableSaid : TableLine → Type 0
 IsTableSaid table = IsSettledTable table × HasForm table
 
 abbrev pub IsSettledSaid : Said → Type 0
 IsSettledSaid said = IsSettled said.config × IsForm said.form
 
-table_said : (words : List (List ℕ)) → IfOk (table_of words) IsTableSaid
+pub table_said : (words : List (List ℕ)) → IfOk (table_of words) IsTableSaid
 table_said words = both (table_of words) (table_settled words) (table_form words)
   where
     both : (read : Result TableLine Cause) → IfOk read IsSettledTable → IfOk read HasForm → IfOk read IsTableSaid
     both (Ok table) settled form = (settled, form)
     both (Err cause) settled form = tt
 
--- By induction over the lines up to the table line.
-said_settled : (line_by : TableLine → List (List ℕ) → Result ScriptLine Cause) (number : ℕ) (lines : List (List ℕ))
-    → IfOk (script_by line_by number lines) IsSettledSaid
-said_settled line_by number [] = tt
-said_settled line_by number (line ∷ lines) =
-    IfOk-after IsSettledSaid (at_line number (words_at number line)) _ (λ words.
-    IfOk-cond IsSettledSaid (is_skipped words) (script_by line_by (number + 1) lines) _
-    (said_settled line_by (number + 1) lines)
-    (IfOk-then IsTableSaid IsSettledSaid (at_line number (table_of words)) _
-    (IfOk-at_line IsTableSaid number (table_of words) (table_said words)) (λ table is.
-    IfOk-after IsSettledSaid (lines_by line_by (number + 1) table lines) _ (λ others. is))))
-
 -- so it is of bytes that are read, whatever their lines below the table line are
 pub IsSettledSaid-read : (line_by : TableLine → List (List ℕ) → Result ScriptLine Cause) (bytes : List ℕ) (said : Said)
     → reading_by (script_by line_by) bytes ≡ Ok said → IsSettledSaid said
-IsSettledSaid-read line_by bytes said read =
-    let lines = lines_of bytes in
-    IfOk-at_ok IsSettledSaid read
-    (IfOk-cond IsSettledSaid (nat_lt most_bytes (length bytes)) _ (script_by line_by 1 lines) tt (said_settled line_by 1 lines))
+IsSettledSaid-read line_by =
+    table_reading_holds IsTableSaid IsSettledSaid (below_by line_by) table_said (λ table number lines is first few.
+    IfOk-after IsSettledSaid (lines_by line_by number table lines) _ (λ others. is))
 
 -- each call that is read has a verb
 pub call_sayable : (table : TableLine) (words : List (List ℕ))
@@ -395,6 +382,12 @@ pub command_sound : (table : TableLine) (words : List (List ℕ))
 command_sound table words =
     IfOk-weaker (command_of table words) (IsSayableCommand table.form table.config) _
     (is_sound_command-sayable table.form table.config) (command_sayable table words)
+
+-- and so can what words ask behind a worker
+pub call_sound : (table : TableLine) (words : List (List ℕ)) → IfOk (call_of table words) (λ call. is_sound_call table.config call ≡ true)
+call_sound table words =
+    IfOk-weaker (call_of table words) (IsSayableCall table.form table.config) _
+    (is_sound_call-sayable table.form table.config) (call_sayable table words)
 
 -- what holds of what was read holds with the cause told by its number too
 pub IfOk-coded : {X : Type 0} (P : X → Type 0) (read : Result X Cause) → IfOk read P → IfOk (coded read) P

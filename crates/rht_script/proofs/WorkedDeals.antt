@@ -1,6 +1,6 @@
 -- Dealt scripts, and inputs that are none, with what they say or their first faults, as the definitions compute them. What is wanted was
 -- worked out by hand from the rules of dealt scripts. They are examples to read beside the definitions; nothing cites them.
-use Rattle.std.proofs.Common.{◌≡◌, ℕ, Bool, true, false, Ok, Err, List, [], ◌∷◌, ◌++◌, map, codes, refl}
+use Rattle.std.proofs.Common.{◌≡◌, ℕ, true, false, Ok, Err, List, [], ◌∷◌, ◌++◌, map, codes, refl}
 use Rattle.rht_words.specs.Ports.{port_at}
 use Rattle.rht_words.specs.Settled.{plain_config}
 use Rattle.rht_words.specs.Sizes.{powers, rounded_up}

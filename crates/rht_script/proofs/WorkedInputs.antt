@@ -19,7 +19,7 @@ use Rattle.rht_script.specs.declared.cause.Cause.TheVariants.{NoTableLine, Unkno
 use Rattle.rht_script.specs.Spelling.{lines_of, words_of, number_of}
 use Rattle.rht_script.specs.TableLines.{setting_of, configured, config_of, table_of}
 use Rattle.rht_script.specs.PortWords.{one_number, net_and_number, port_of_word}
-use Rattle.rht_script.specs.CommandLines.{bind_of, find_of, all_of, release_of, rebind_of, bare_of, call_of, command_of}
+use Rattle.rht_script.specs.CommandLines.{bind_of, find_of, all_of, release_of, rebind_of, bare_of, call_of, worker_of, command_of}
 use Rattle.rht_script.specs.ScheduleLines.{events_of}
 use Rattle.rht_script.specs.ScriptLines.{line_of}
 use Rattle.rht_script.specs.Grammar.{most_in_line, fault_at, reading_of}
@@ -27,7 +27,7 @@ use Rattle.rht_script.specs.Grammar.{most_in_line, fault_at, reading_of}
 -- the definitions that reading a text computes
 whole_reading : Unit {0}
 unfolding reading_of lines_of words_of number_of port_of_word table_of setting_of config_of configured rounded_up powers
-    line_of events_of command_of call_of bind_of find_of all_of release_of rebind_of bare_of
+    line_of events_of command_of worker_of call_of bind_of find_of all_of release_of rebind_of bare_of
 whole_reading = tt
 
 -- each of these texts has its first fault at this line, of this cause

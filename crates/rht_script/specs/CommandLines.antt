@@ -101,12 +101,24 @@ worker_limits config = record { least = 1; greatest = config.callers }
 abbrev pub begins_schedule : List ℕ → Bool
 begins_schedule word = is_word word (codes "step") || is_word word (codes "skip") || is_word word (codes "finish")
 
+-- the worker that the first word of a line names
+unfoldable pub worker_of : Config → List ℕ → Result ℕ Cause
+worker_of config word = if begins_schedule word then Err UnknownWord else number_of (worker_limits config) word
+
+-- that worker, and the words behind it
+abbrev pub worker_first : Config → List (List ℕ) → Result (ℕ × List (List ℕ)) Cause
+worker_first config [] = Err UnknownWord
+worker_first config (word ∷ words) = do
+  worker ← worker_of config word
+  Ok (worker, words)
+
+-- the worker of a line, and what that asks, by such a reading of the words behind it
+abbrev pub asked_by : {X : Type 0} → (List (List ℕ) → Result X Cause) → Config → List (List ℕ) → Result (ℕ × X) Cause
+asked_by ask_of config words = do
+  worker ← worker_first config words
+  ask ← ask_of worker.1
+  Ok (worker.0, ask)
+
 -- the command of a line of these words below this table line: its worker, and what that asks
 unfoldable pub command_of : TableLine → List (List ℕ) → Result (ℕ × Call) Cause
-command_of table [] = Err UnknownWord
-command_of table (worker ∷ words) =
-    if begins_schedule worker then Err UnknownWord
-    else do
-      number ← number_of (worker_limits table.config) worker
-      call ← call_of table words
-      Ok (number, call)
+command_of table words = asked_by (call_of table) table.config words

@@ -1,9 +1,10 @@
--- What the reader's cursors give: the next line, and the next words of a line.
+-- What the reader's cursors give: the next line, the table line with the lines below it, and the next words of a line.
 use Rattle.std.specs.Prelude.{◌≡◌, ℕ, ◌+◌, false, Option, None, Some, Result, Ok, Err, List, [], ◌∷◌}
 use Rattle.std.specs.Borrow.{Bor}
 use Rattle.rht_script.specs.declared.script.ScriptFault.{ScriptFault}
+use Rattle.rht_script.specs.declared.script.TableLine.{TableLine}
 use Rattle.rht_script.specs.declared.cause.Cause.{Cause}
-use Rattle.rht_script.specs.Grammar.{words_at, at_line}
+use Rattle.rht_script.specs.Grammar.{words_at, at_line, from_table, reading_by}
 use Rattle.rht_script.specs.Spelling.{is_blank, words_of}
 
 -- the lines that are left, and the number of the first of them
@@ -30,6 +31,18 @@ abbrev pub TakesNext : Unread → Unread → Option (Result (ℕ × Bor (List �
 TakesNext before after None = (before.lines ≡ []) × (after ≡ before)
 TakesNext before after (Some (Ok taken)) = Takes before after taken.0 taken.1.now
 TakesNext before after (Some (Err fault)) = IsAtFault before fault × (after ≡ before)
+
+-- a table line, and the lines below it
+abbrev pub table_above : TableLine → ℕ → List (List ℕ) → Result (TableLine × Unread) ScriptFault
+table_above table number lines = Ok (table, record { number = number; lines = lines })
+
+-- the table line of these lines, which are counted on from this number, and the lines below it
+abbrev pub table_from : ℕ → List (List ℕ) → Result (TableLine × Unread) ScriptFault
+table_from = from_table table_above
+
+-- the same of these bytes
+abbrev pub table_reading_of : List ℕ → Result (TableLine × Unread) ScriptFault
+table_reading_of bytes = reading_by table_from bytes
 
 -- what was read of the front of these words, and the words left
 abbrev pub Reads : {X : Type 0} → Result X Cause → List (List ℕ) → Result (X × List (List ℕ)) Cause → Type 0

@@ -77,9 +77,9 @@ said_of table lines = record {
 
 -- ---- lines, of which each below the table line says what such a reading of its words gives
 
-module _ (line_by : TableLine → List (List ℕ) → Result ScriptLine Cause) where
+module _ {X : Type 0} (line_by : TableLine → List (List ℕ) → Result X Cause) where
   -- what the lines below the table line say, which are counted on from this number
-  abbrev pub lines_by : ℕ → TableLine → List (List ℕ) → Result (List ScriptLine) ScriptFault
+  abbrev pub lines_by : ℕ → TableLine → List (List ℕ) → Result (List X) ScriptFault
   lines_by number table [] = Ok []
   lines_by number table (line ∷ lines) = do
     words ← at_line number (words_at number line)
@@ -89,21 +89,28 @@ module _ (line_by : TableLine → List (List ℕ) → Result ScriptLine Cause) w
           others ← lines_by (number + 1) table lines
           Ok (first ∷ others)
 
+module _ {X : Type 0} (below : TableLine → ℕ → List (List ℕ) → Result X ScriptFault) where
+  -- what is said in these lines, which are counted on from this number: the first that isn't skipped is the table line, and such a reading
+  -- of it and of the lines below it says the rest
+  abbrev pub from_table : ℕ → List (List ℕ) → Result X ScriptFault
+  from_table number [] = Err (fault_at number NoTableLine)
+  from_table number (line ∷ lines) = do
+    words ← at_line number (words_at number line)
+    if is_skipped words then from_table (number + 1) lines
+        else do
+          table ← at_line number (table_of words)
+          below table (number + 1) lines
+
+module _ (line_by : TableLine → List (List ℕ) → Result ScriptLine Cause) where
   -- what is said with this table line by these lines below it
   abbrev pub below_by : TableLine → ℕ → List (List ℕ) → Result Said ScriptFault
   below_by table number lines = do
-    said ← lines_by number table lines
+    said ← lines_by line_by number table lines
     Ok (said_of table said)
 
-  -- what is said in these lines, which are counted on from this number: the first that isn't skipped is the table line
+  -- what is said in these lines, which are counted on from this number
   abbrev pub script_by : ℕ → List (List ℕ) → Result Said ScriptFault
-  script_by number [] = Err (fault_at number NoTableLine)
-  script_by number (line ∷ lines) = do
-    words ← at_line number (words_at number line)
-    if is_skipped words then script_by (number + 1) lines
-        else do
-          table ← at_line number (table_of words)
-          below_by table (number + 1) lines
+  script_by = from_table below_by
 
 -- ---- commands and lines of the schedule
 

@@ -18,6 +18,8 @@ pub mod Parts
 pub mod Allowed
 -- what the reader's cursors give
 pub mod Cursors
+-- what a text says whose lines below the table line are commands of any kind
+pub mod Commands
 -- what `read` answers
 pub mod Reading
 -- which scripts can be run

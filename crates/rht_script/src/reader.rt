@@ -5,9 +5,10 @@
 //! other programs read the same lines and words.
 
 ghost use Rattle.std.specs.Prelude.{◌≡◌, ◌+◌, ◌<◌, ◌≤◌, ◌==◌, ◌∷◌, Ok, Err, IfOk, IfErr, MatchResult, MatchOption, count_by, length, take, fold};
-ghost use Rattle.rht_script.specs.Grammar.{fault_at, below_by, script_by};
+ghost use Rattle.rht_script.specs.Grammar.{fault_at, below_by};
+ghost use Rattle.rht_script.specs.Cursors.{table_from, table_reading_of};
 ghost use Rattle.rht_script.specs.TableLines.{no_options, table_of, kind_of, hash_of, switch_of, auto_of, setting_of, options_from};
-ghost use Rattle.rht_script.specs.CommandLines.{command_of, call_of, bind_of, find_of, all_of, release_of, rebind_of, bare_of, whole_walk};
+ghost use Rattle.rht_script.specs.CommandLines.{command_of, worker_of, call_of, bind_of, find_of, all_of, release_of, rebind_of, bare_of, whole_walk};
 ghost use Rattle.rht_script.specs.ScheduleLines.{events_of};
 ghost use Rattle.rht_script.specs.ScriptLines.{line_of};
 ghost use Rattle.rht_script.specs.Dealt.{dealt_line, dealt_of, dealing_of, line_as, reading_as, SaysDealt, IsDealtScript};
@@ -24,6 +25,7 @@ mod places;
 mod ports;
 
 pub use self::cursors::{Lines, Words};
+pub use self::numbers::number_within;
 pub use self::parts::{command_line, number_of, port_word, table_line};
 pub use self::places::{line_end, word_at};
 use crate::cause::{Cause, at_line};
@@ -37,7 +39,7 @@ use names::{
     MIX, NODES, OFF, ON, PAGES, REBIND, RELEASE, REWALKS, SEED, SHRINK, SINGLE, SKIP, STEP, TABLE,
     TIDY, WALK, WORK, WORKERS,
 };
-use numbers::{OWNER, number_within};
+use numbers::OWNER;
 use rht_model::Call;
 use rht_words::{Config, Hash, Kind, limits};
 use std::alloc::Global;
@@ -75,16 +77,25 @@ fn read_as(alloc: Global, below: Below, bytes: &[u8]) -> Result<Script, ReadErro
     ensures script { IfOk result (λ script. reading_as below bytes.now ≡ Ok (said_by script)) }
     ensures reason { IfErr result (IsReasonFor (reading_as below bytes.now)) }
 {
-    if bytes.len() > MOST_BYTES {
-        return Err(ReadError::Fault(too_long(bytes)));
-    }
-    let mut lines = Lines::new(bytes);
-    let table = first_table(below, &mut lines)?;
+    let (table, lines) = first_table(bytes)?;
     script_below(alloc, below, &table, lines)
 }
 
+/// What the table line of these bytes says, which is their first line that isn't skipped, and the lines
+/// below it. Too many bytes are a fault before all others.
+pub fn first_table<'a>(bytes: &'a [u8]) -> Result<(TableLine, Lines<'a>), ScriptFault>
+    ensures { result ≡ table_reading_of bytes.now }
+{
+    if bytes.len() > MOST_BYTES {
+        return Err(too_long(bytes));
+    }
+    let mut lines = Lines::new(bytes);
+    let table = table_in(&mut lines)?;
+    Ok((table, lines))
+}
+
 /// The fault of too many bytes, at the line of the first byte that is one too many.
-pub fn too_long(bytes: &[u8]) -> ScriptFault
+fn too_long(bytes: &[u8]) -> ScriptFault
     requires { MOST_BYTES < length bytes.now }
     ensures { result ≡ fault_at (1 + count_by (λ byte. byte == 10) (take MOST_BYTES bytes.now)) ScriptTooLong }
 {
@@ -100,12 +111,12 @@ fn line_feeds(bytes: &[u8]) -> u32
     bytes.iter().filter(|byte| **byte == b'\n').count() as u32
 }
 
-/// What the table line says, which is the first line that isn't skipped, in a script of such lines.
-fn first_table(below: Below, lines: &mut Lines) -> Result<TableLine, ScriptFault>
+/// What the table line says, which is the first line that isn't skipped. The lines that are left are those
+/// below it.
+fn table_in(lines: &mut Lines) -> Result<TableLine, ScriptFault>
     ensures { MatchResult result
-        (λ table. script_by (line_as below) lines.old.number lines.old.lines
-        ≡ below_by (line_as below) table lines.new.number lines.new.lines)
-        (λ fault. script_by (line_as below) lines.old.number lines.old.lines ≡ Err fault) }
+        (λ table. table_from lines.old.number lines.old.lines ≡ Ok (table, lines.new))
+        (λ fault. table_from lines.old.number lines.old.lines ≡ Err fault) }
 {
     while let Some(next) = lines.next() {
         let (number, line) = next?;
@@ -310,17 +321,25 @@ fn events(config: &Config, mut words: Words) -> Result<(u32, u32), Cause>
     Ok((worker, number))
 }
 
-/// The command of a line that begins with this word: its worker, and what that asks. A word that
-/// begins a line of the schedule is an unknown word at a worker's place.
+/// The command of a line that begins with this word: its worker, and what that asks.
 #[tactic(auto, unfolding(crate::specs::CommandLines::command_of))]
-fn command(table: &TableLine, worker: &[u8], words: Words) -> Result<(u32, Call), Cause>
-    ensures { result ≡ command_of table.now (worker.now ∷ words.entry) }
+pub fn command(table: &TableLine, first: &[u8], words: Words) -> Result<(u32, Call), Cause>
+    ensures { result ≡ command_of table.now (first.now ∷ words.entry) }
 {
-    if worker == STEP || worker == SKIP || worker == FINISH {
+    let worker = worker(&table.config, first)?;
+    Ok((worker, call(table, words)?))
+}
+
+/// The worker that the first word of a line names. A word that begins a line of the schedule is an unknown
+/// word there.
+#[tactic(auto, unfolding(crate::specs::CommandLines::worker_of))]
+fn worker(config: &Config, word: &[u8]) -> Result<u32, Cause>
+    ensures { result ≡ worker_of config.now word.now }
+{
+    if word == STEP || word == SKIP || word == FINISH {
         return Err(Cause::UnknownWord);
     }
-    let worker = number_within(worker_limits(&table.config), worker)?;
-    Ok((worker, call(table, words)?))
+    number_within(worker_limits(config), word)
 }
 
 /// What the words of a line say that is a command which any worker may do.
@@ -345,12 +364,20 @@ fn dealt_command(command: (u32, Call)) -> Result<ScriptLine, Cause>
     }
 }
 
-/// What a verb asks below this table line with the words behind it.
+/// What these words ask below this table line, of which the first is a verb.
 #[tactic(auto, unfolding(crate::specs::CommandLines::call_of))]
 fn call(table: &TableLine, mut words: Words) -> Result<Call, Cause>
     ensures { result ≡ call_of table.now words.entry }
 {
     let verb = words.next().ok_or(Cause::UnknownWord)?;
+    call_of_verb(table, verb, words)
+}
+
+/// What this verb asks below this table line with the words behind it.
+#[tactic(auto, unfolding(crate::specs::CommandLines::call_of))]
+pub fn call_of_verb(table: &TableLine, verb: &[u8], words: Words) -> Result<Call, Cause>
+    ensures { result ≡ call_of table.now (verb.now ∷ words.entry) }
+{
     if verb == BIND {
         bind(table.form, words)
     } else if verb == FIND {

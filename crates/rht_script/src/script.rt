@@ -158,7 +158,7 @@ fn is_port_in(form: u32, port: Port) -> bool
 }
 
 /// Whether a table of this config serves the call.
-fn is_sound_call(config: &Config, call: Call) -> bool
+pub fn is_sound_call(config: &Config, call: Call) -> bool
     ensures { result ≡ is_sound_call config.now call }
 {
     match call {
@@ -179,7 +179,7 @@ fn is_sound_line(config: &Config, line: Sched) -> bool
 }
 
 /// The numbers of workers, which are the callers of the table, counted from 1.
-pub(crate) fn worker_limits(config: &Config) -> Limits
+pub fn worker_limits(config: &Config) -> Limits
     ensures { result ≡ worker_limits config.now }
 {
     Limits {

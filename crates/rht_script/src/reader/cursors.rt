@@ -4,16 +4,16 @@
 //! Stands on `places`, which finds where a line ends and where the next word stands.
 
 ghost use Rattle.std.specs.Prelude.{◌≡◌, ◌≢◌, ◌+◌, [], ◌∷◌, MatchOption, Ok, Err};
-ghost use Rattle.rht_script.specs.CommandLines.{number_first, port_first, end_of};
+ghost use Rattle.rht_script.specs.CommandLines.{number_first, worker_first, port_first, end_of};
 ghost use Rattle.rht_script.specs.Spelling.{between, lines_of, words_of, is_skipped};
 ghost use Rattle.rht_script.specs.Cursors.{TakesNext, Reads};
 
 use super::numbers::{number_between, number_within};
 use super::places::{letter_at, line_end, word_at};
-use super::ports;
+use super::{ports, worker};
 use crate::cause::Cause;
 use crate::script::{MOST_LINES, ScriptFault};
-use rht_words::{Limits, Port};
+use rht_words::{Config, Limits, Port};
 use std::marker::Model;
 
 /// The greatest number of bytes of a line without its line feed.
@@ -140,6 +140,17 @@ impl<'a> Words<'a> {
     {
         match self.next() {
             Some(word) => number_between(word, 0, u64::MAX),
+            None => Err(Cause::UnknownWord),
+        }
+    }
+
+    /// The worker that the next word names, of a table of this config, where it is the first of a line. A word
+    /// that begins a line of the schedule is an unknown one. After an `Err` the words are of no more use.
+    pub fn worker(&mut self, config: &Config) -> Result<u32, Cause>
+        ensures { Reads result self.new (worker_first config.now self.old) }
+    {
+        match self.next() {
+            Some(word) => worker(config, word),
             None => Err(Cause::UnknownWord),
         }
     }

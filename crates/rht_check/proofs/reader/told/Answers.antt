@@ -21,7 +21,7 @@ returns-in_err-worker-clause-reason c =
     rw (p.1, p.2)
     (ap (at_line c.args.number) (told_of-first table c.args.words word rest c.in-Some.ensures)
     ∙ at_line-err c.args.number (worker_of table word) (λ worker. reply_of worker rest) c.in_err-worker.field-0.0
-    (sym c.in_err-worker.ensures))
+    (sym (c.in_err-worker.ensures ∙ ap (at_line c.args.number) c.worker.ensures)))
 
 pub returns-clause-told : goal.returns-clause-told
 returns-clause-told c =
@@ -29,7 +29,8 @@ returns-clause-told c =
     let word = c.in-Some.word.now in
     let rest = c.next.new.self in
     let whole = ap (at_line c.args.number) (told_of-first table c.args.words word rest c.in-Some.ensures)
-    ∙ at_line-ok c.args.number (worker_of table word) (λ worker. reply_of worker rest) c.in_ok-worker.worker (sym c.in_ok-worker.ensures) in
+    ∙ at_line-ok c.args.number (worker_of table word) (λ worker. reply_of worker rest) c.in_ok-worker.worker
+    (sym (c.in_ok-worker.ensures ∙ ap (at_line c.args.number) c.worker.ensures)) in
     subst (λ r. IfOk c.reply.result (λ told. r ≡ Ok told)) (sym whole) c.reply.ensures.told
 
 pub returns-clause-reason : goal.returns-clause-reason
@@ -38,5 +39,6 @@ returns-clause-reason c =
     let word = c.in-Some.word.now in
     let rest = c.next.new.self in
     let whole = ap (at_line c.args.number) (told_of-first table c.args.words word rest c.in-Some.ensures)
-    ∙ at_line-ok c.args.number (worker_of table word) (λ worker. reply_of worker rest) c.in_ok-worker.worker (sym c.in_ok-worker.ensures) in
+    ∙ at_line-ok c.args.number (worker_of table word) (λ worker. reply_of worker rest) c.in_ok-worker.worker
+    (sym (c.in_ok-worker.ensures ∙ ap (at_line c.args.number) c.worker.ensures)) in
     subst (λ r. IfErr c.reply.result (IsReasonFor r)) (sym whole) c.reply.ensures.reason

@@ -1,4 +1,4 @@
-use Rattle.std.proofs.Common.{ℕ, ◌+◌, ◌-◌, false, sym, subst, get_or, set}
+use Rattle.std.proofs.Common.{ℕ, ◌+◌, ◌-◌, sym, subst, get_or, set}
 use Rattle.rht_model.specs.declared.history.Call.{Call}
 use Rattle.rht_check.specs.CommandsLeft.{Left, TakesCommand, IsNextAt}
 use Rattle.rht_check.proofs.NextCommands.{taken_at}

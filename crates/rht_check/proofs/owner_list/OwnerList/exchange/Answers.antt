@@ -1,4 +1,4 @@
-use Rattle.std.proofs.Common.{◌≡◌, ◌≢◌, [], ◌∙◌, sym, ap, set, subst, arith}
+use Rattle.std.proofs.Common.{◌≢◌, [], ◌∙◌, sym, subst}
 use Rattle.rht_check.proofs.OwnerLists.{found_at, absent, rebound_at, unrebound, owners_rebound-some}
 use Rattle.rht_check.proofs.owner_list.OwnerList.exchange.Goals as goal
 
