@@ -18,7 +18,8 @@ use Rattle.rht_lease.specs.declared.lease.LeaseReply.TheVariants.{Renewed, NoLea
 use Rattle.rht_lease.specs.Answers.{Answer, IsOwnReply, IsBareReply, renew_reply, IsCancelAnswer, IsAnswer, AreAnswered, book_left, calls_in_turn}
 use Rattle.rht_lease.specs.Books.{is_lease_of, has_lease, is_ended, release_of, sweep_calls, book_after, calls_for}
 use Rattle.rht_lease.specs.Laws.{wants_none_of, MissesWhereNoneIs, AnswersByOwnCalls, HoldsWhatIsAsked, is_release_of, SweepsEachEnded, LeavesNoneEnded}
-use Rattle.rht_lease.proofs.BookLemmas.{one_if, length-book_left}
+use Rattle.rht_workers.proofs.WorkerCommands.{one_if}
+use Rattle.rht_lease.proofs.BookLemmas.{length-book_left}
 
 -- ---- leases that are missed
 

@@ -1,18 +1,19 @@
 -- What a worker has done, with one command more: its book, the calls that its commands stand for, and their answers. And how many leases a
 -- book has at most.
-use Rattle.std.proofs.Common.{◌≡◌, ℕ, suc, ◌+◌, ◌≤◌, ◌==◌, ◌&&◌, not, Bool, true, false, cond, List, [], ◌∷◌, ◌++◌, length, refl, sym, ◌∙◌, ap, append_assoc, arith}
+use Rattle.std.proofs.Common.{◌≡◌, ℕ, suc, ◌+◌, ◌≤◌, not, Bool, true, false, cond, List, [], ◌∷◌, ◌++◌, length, refl, sym, ◌∙◌, ap, append_assoc, arith}
 use Rattle.std.specs.Prelude.{count_by}
 use Rattle.std.proofs.lemmas.List.{append-nil, length_push}
 use Rattle.std.proofs.lemmas.List.Sums.{sum_by-cons, length-filter, count_by-le-length}
 use Rattle.rht_model.specs.declared.history.Reply.{Reply}
 use Rattle.rht_model.specs.declared.history.Reply.TheVariants as replies
 use Rattle.rht_model.specs.Endings.{Ending}
+use Rattle.rht_workers.proofs.WorkerCommands.{one_if}
 use Rattle.rht_lease.specs.declared.lease.Lease.{Lease}
 use Rattle.rht_lease.specs.declared.lease.LeaseCall.{LeaseCall}
 use Rattle.rht_lease.specs.declared.lease.LeaseCall.TheVariants as asks
 use Rattle.rht_lease.specs.declared.lease.LeaseReply.{LeaseReply}
 use Rattle.rht_lease.specs.declared.lease.LeaseReply.TheVariants as answers
-use Rattle.rht_lease.specs.Answers.{Answer, IsAnswer, AreAnswered, book_left, calls_in_turn, commands_of, is_lease, own_leases}
+use Rattle.rht_lease.specs.Answers.{Answer, IsAnswer, AreAnswered, book_left, calls_in_turn, is_lease}
 use Rattle.rht_lease.specs.Books.{lease_of, is_lease_of, is_ended, renewed, cancelled, leased, leased_by, book_after, calls_for}
 
 -- ---- one command more
@@ -71,10 +72,6 @@ AreAnswered-push leases (first ∷ asked) (one ∷ answers) endings ask answer m
 
 -- ---- how many leases there are
 
--- a number by a test
-abbrev pub one_if : Bool → ℕ
-one_if test = cond test 1 0
-
 length-leased : (leases : List Lease) (lease : Lease) (reply : Reply) → length (leased leases lease reply) ≤ length leases + 1
 length-leased leases lease (replies.Bound kick) = omega (arith, length_push leases lease)
 length-leased leases lease _ = omega arith
@@ -128,67 +125,3 @@ length-book_left leases (ask ∷ asked) (answer ∷ answers) =
       length-book_after leases ask answer.0,
       sum_by-cons (λ a. one_if (is_lease a)) ask asked,
     )
-
--- ---- the commands of a worker
-
--- a command in front of two lists, whether or not it is the worker's
-with_own : (own : Bool) (ask : LeaseCall) (whole asked more : List LeaseCall) → whole ≡ asked ++ more
-    → cond own (ask ∷ whole) whole ≡ cond own (ask ∷ asked) asked ++ more
-with_own true ask whole asked more is = ap (λ l. ask ∷ l) is
-with_own false ask whole asked more is = is
-
-commands_of-append : (worker : ℕ) (commands more : List (ℕ × LeaseCall))
-    → commands_of worker (commands ++ more) ≡ commands_of worker commands ++ commands_of worker more
-commands_of-append worker [] more = refl
-commands_of-append worker (command ∷ commands) more =
-    with_own (command.0 == worker) command.1 (commands_of worker (commands ++ more)) (commands_of worker commands)
-    (commands_of worker more) (commands_of-append worker commands more)
-
--- a command of its own comes last among its commands
-pub commands_of-own : (worker : ℕ) (commands : List (ℕ × LeaseCall)) (command : ℕ × LeaseCall) → (command.0 == worker) ≡ true
-    → commands_of worker (commands ++ command ∷ []) ≡ commands_of worker commands ++ command.1 ∷ []
-commands_of-own worker commands command own =
-    commands_of-append worker commands (command ∷ [])
-    ∙ ap (λ mine. commands_of worker commands ++ cond mine (command.1 ∷ []) []) own
-
--- and one of another worker isn't among them
-pub commands_of-other : (worker : ℕ) (commands : List (ℕ × LeaseCall)) (command : ℕ × LeaseCall) → (command.0 == worker) ≡ false
-    → commands_of worker (commands ++ command ∷ []) ≡ commands_of worker commands
-commands_of-other worker commands command other =
-    commands_of-append worker commands (command ∷ [])
-    ∙ ap (λ mine. commands_of worker commands ++ cond mine (command.1 ∷ []) []) other
-    ∙ append-nil (commands_of worker commands)
-
--- how many of a worker's commands pass a test
-pub count-commands_of : (test : LeaseCall → Bool) (worker : ℕ) (commands : List (ℕ × LeaseCall))
-    → count_by test (commands_of worker commands) ≡ count_by (λ command. (command.0 == worker) && test command.1) commands
-count-commands_of test worker [] = refl
-count-commands_of test worker (command ∷ commands) =
-    by_test (command.0 == worker) refl (count-commands_of test worker commands)
-  where
-    by_test : (mine : Bool) → (command.0 == worker) ≡ mine
-        → count_by test (commands_of worker commands) ≡ count_by (λ c. (c.0 == worker) && test c.1) commands
-        → count_by test (cond (command.0 == worker) (command.1 ∷ commands_of worker commands) (commands_of worker commands))
-        ≡ count_by (λ c. (c.0 == worker) && test c.1) (command ∷ commands)
-    by_test true mine behind =
-        let first = sum_by-cons (λ (c : ℕ × LeaseCall). one_if ((c.0 == worker) && test c.1)) command commands in
-        let own : count_by test (cond (command.0 == worker) (command.1 ∷ commands_of worker commands) (commands_of worker commands))
-        ≡ one_if (test command.1) + count_by test (commands_of worker commands) =
-        ap (λ b. count_by test (cond b (command.1 ∷ commands_of worker commands) (commands_of worker commands))) mine
-        ∙ sum_by-cons (λ a. one_if (test a)) command.1 (commands_of worker commands) in
-        let here : one_if ((command.0 == worker) && test command.1) ≡ one_if (test command.1) =
-        ap (λ b. one_if (b && test command.1)) mine in
-        omega (arith, first, own, here, behind)
-    by_test false mine behind =
-        let first = sum_by-cons (λ (c : ℕ × LeaseCall). one_if ((c.0 == worker) && test c.1)) command commands in
-        let own : count_by test (cond (command.0 == worker) (command.1 ∷ commands_of worker commands) (commands_of worker commands))
-        ≡ count_by test (commands_of worker commands) =
-        ap (λ b. count_by test (cond b (command.1 ∷ commands_of worker commands) (commands_of worker commands))) mine in
-        let here : one_if ((command.0 == worker) && test command.1) ≡ 0 =
-        ap (λ b. one_if (b && test command.1)) mine in
-        omega (arith, first, own, here, behind)
-
--- so it asks for as many leases as there are lease commands of its own
-pub leases-commands_of : (worker : ℕ) (commands : List (ℕ × LeaseCall))
-    → count_by is_lease (commands_of worker commands) ≡ own_leases worker commands
-leases-commands_of worker commands = count-commands_of is_lease worker commands

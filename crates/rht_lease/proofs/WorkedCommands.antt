@@ -15,6 +15,9 @@ use Rattle.rht_run.specs.Served.{HasServed}
 use Rattle.rht_run.specs.Passes.{IsNew}
 use Rattle.rht_run.specs.Workers.{HasServedCalls}
 use Rattle.rht_run.proofs.ServedWorkers.{HasServedCalls-new}
+use Rattle.rht_workers.specs.WorkerCalls.{HasServedEach}
+use Rattle.rht_workers.proofs.ServedEach.{HasServedEach-none, HasServedEach-one, HasServedCalls-each}
+use Rattle.rht_workers.proofs.WorkerCommands.{commands_of-own, commands_of-other, count-commands_of}
 use Rattle.rht_lease.specs.declared.lease.Lease.{Lease}
 use Rattle.rht_lease.specs.declared.lease.LeaseCall.{LeaseCall}
 use Rattle.rht_lease.specs.declared.lease.LeaseCall.TheVariants as asks
@@ -26,9 +29,9 @@ use Rattle.rht_lease.specs.declared.worker.Worker.{Worker}
 use Rattle.rht_lease.specs.Answers.{IsOwnReply, IsAnswer, AreAnswered, book_left, calls_in_turn, commands_of, is_lease, own_leases}
 use Rattle.rht_lease.specs.Books.{LeaseBook, empty_book, with_leases, IsFull, lasting, book_after, sweep_calls, calls_for}
 use Rattle.rht_lease.specs.Scripts.{is_plain_call}
-use Rattle.rht_lease.specs.ServedLeases.{HasServedEach, HasSwept, HasDone, IsWorking}
-use Rattle.rht_lease.proofs.BookLemmas.{AreAnswered-length, book_left-push, calls_in_turn-push, AreAnswered-push, length-book_left, leases-commands_of, commands_of-own, commands_of-other}
-use Rattle.rht_lease.proofs.ServedCommands.{Serves-many, HasServedEach-none, HasServedEach-one, HasServedCalls-each, IsOwnReply-served}
+use Rattle.rht_lease.specs.ServedLeases.{HasSwept, HasDone, IsWorking}
+use Rattle.rht_lease.proofs.BookLemmas.{AreAnswered-length, book_left-push, calls_in_turn-push, AreAnswered-push, length-book_left}
+use Rattle.rht_lease.proofs.ServedCommands.{Serves-many, IsOwnReply-served}
 
 -- ---- one command of a worker
 
@@ -178,7 +181,7 @@ module _ {M : Type 0} (mix : ℕ → ℕ → ℕ → ℕ) (t : Table M) (auto : 
   IsWorking-room items i default lease worker within own is working room full =
       let mine : ℕ × LeaseCall → Bool = λ (c : ℕ × LeaseCall). (c.0 == number + 1) && is_lease c.1 in
       let so_far = length-book_left [] (commands_of (number + 1) (take i items)) worker.replies in
-      let counted = leases-commands_of (number + 1) (take i items) in
+      let counted = count-commands_of is_lease (number + 1) (take i items) in
       let here : mine (get_or items i default) ≡ true =
       ap (λ b. b && is_lease (get_or items i default).1) (eq-eqb (get_or items i default).0 (number + 1) own)
       ∙ ap is_lease is in

@@ -1,10 +1,12 @@
 -- What the commands of lease scripts are answered: each by how the calls ended that it stands for, and by the book that its worker had then.
-use Rattle.std.specs.Prelude.{◌≡◌, ℕ, ◌+◌, ◌<◌, ◌==◌, ◌&&◌, if◌then◌else◌, Bool, true, false, List, [], ◌∷◌, ◌++◌, length, map, count_by, slice_index_or}
+use Rattle.std.specs.Prelude.{◌≡◌, ℕ, ◌+◌, ◌<◌, ◌==◌, ◌&&◌, Bool, true, false, List, [], ◌∷◌, ◌++◌, length, count_by, slice_index_or}
 use Rattle.rht_words.specs.declared.config.Config.{Config}
 use Rattle.rht_model.specs.declared.history.Call.{Call}
 use Rattle.rht_model.specs.declared.history.Reply.{Reply}
 use Rattle.rht_model.specs.declared.history.Reply.TheVariants.{Bound, Exists, Found, Missing, Listed, Released, Absent, Rebound, TooBig, Again, Busy, NoTable, NoNode, Pending, Elsewhere, Walked, Moved, Idle, Clear, Counted}
 use Rattle.rht_model.specs.Endings.{Ending, replied}
+use Rattle.rht_workers.specs.WorkerCalls.{calls_from}
+pub use Rattle.rht_workers.specs.WorkerCalls.{commands_of}
 use Rattle.rht_lease.specs.declared.lease.Lease.{Lease}
 use Rattle.rht_lease.specs.declared.lease.LeaseCall.{LeaseCall}
 use Rattle.rht_lease.specs.declared.lease.LeaseCall.TheVariants as asks
@@ -163,12 +165,6 @@ AreAnswered leases (ask ∷ asked) (answer ∷ answers) endings =
 
 -- ---- all workers
 
--- the commands of a worker among those of all, each with its worker
-abbrev pub commands_of : ℕ → List (ℕ × LeaseCall) → List LeaseCall
-commands_of worker [] = []
-commands_of worker (command ∷ commands) =
-    if command.0 == worker then command.1 ∷ commands_of worker commands else commands_of worker commands
-
 -- the command asks for a lease
 abbrev pub is_lease : LeaseCall → Bool
 is_lease (asks.Plain call) = false
@@ -181,18 +177,12 @@ is_lease (asks.Sweep now) = false
 abbrev pub own_leases : ℕ → List (ℕ × LeaseCall) → ℕ
 own_leases worker commands = count_by (λ command. command.0 == worker && is_lease command.1) commands
 
--- the calls that a worker's commands stand for, each with the worker; its book is empty at first
-abbrev pub calls_by : ℕ → List (ℕ × LeaseCall) → List Answer → List (ℕ × Call)
-calls_by worker commands answers = map (λ call. (worker, call)) (calls_in_turn [] (commands_of worker commands) answers)
-
--- the same of workers who are counted on from this number, where this is what each was answered: those of the first worker, then those of
--- the second, and so on
-abbrev pub calls_from : ℕ → List (ℕ × LeaseCall) → List (List Answer) → List (ℕ × Call)
-calls_from worker commands [] = []
-calls_from worker commands (own ∷ others) = calls_by worker commands own ++ calls_from (worker + 1) commands others
+-- the calls that the commands of all workers stand for, each with its worker, where this is what each was answered; a book is empty at first
+abbrev pub own_calls : List (ℕ × LeaseCall) → ℕ → List Answer → List Call
+own_calls commands worker answers = calls_in_turn [] (commands_of worker commands) answers
 
 abbrev pub all_calls : List (ℕ × LeaseCall) → List (List Answer) → List (ℕ × Call)
-all_calls commands answers = calls_from 1 commands answers
+all_calls commands answers = calls_from (own_calls commands) 1 answers
 
 -- The commands of each worker are answered so, where the calls that they stand for ended so, each worker's at its place.
 pub record AreAllAnswered (config : Config) (commands : List (ℕ × LeaseCall)) (answers : List (List Answer)) (endings : List (List Ending))

@@ -2,8 +2,6 @@
 pub mod ServedCalls
 -- the commands of a sound script are its workers', and for a table of its kind
 pub mod SoundCommands
--- what the workers leave, place by place
-pub mod ClosedOutcomes
 -- where a worker's next command is, and what is left
 pub mod NextCommands
 -- parts of a replay, one behind the other

@@ -8,7 +8,7 @@ use Rattle.std.proofs.lemmas.Bool.{and_parts, cases_eq}
 use Rattle.std.proofs.KnownBytes.{Appends-nil}
 use Rattle.rht_io.specs.declared.source.Failed.{Failed}
 use Rattle.rht_io.specs.Told.{Puts}
-use Rattle.rht_io.proofs.ToldLemmas.{AppendsPrefix-after, AppendsPrefix-longer, Rose-after_kept, Puts-after, Puts-longer, Puts-of_put, Puts-passed_on}
+use Rattle.rht_io.proofs.ToldLemmas.{AppendsPrefix-after, Rose-after_kept, Puts-after, Puts-longer, Puts-of_put, Puts-passed_on}
 use Rattle.rht_registry.specs.declared.replaying.ReplayError.{ReplayError}
 use Rattle.rht_registry.specs.declared.replaying.ReplayError.TheVariants.{Write}
 use Rattle.rht_model.specs.declared.history.Call.{Call}

@@ -1,27 +1,25 @@
 -- The end of a replay, and the whole of it, in plain variables.
 use Rattle.std.proofs.Common.{◌≡◌, ℕ, Bool, true, false, cond, List, [], ◌∷◌, ◌++◌, refl, sym, ◌∙◌, ap, subst}
-use Rattle.std.specs.Prelude.{IsTrue}
 use Rattle.std.specs.List.{AllByRecursion, list_all, flat_map}
 use Rattle.std.proofs.lemmas.Bool.{and_parts, leb-true}
 use Rattle.rht_words.specs.declared.config.Config.{Config}
 use Rattle.rht_words.specs.declared.env.Env.{Env}
 use Rattle.rht_words.specs.Settled.{IsSettled}
-use Rattle.rht_words.proofs.EachElement.{AllByRecursion-weaker}
 use Rattle.rht_model.specs.declared.history.Call.{Call}
 use Rattle.rht_core.specs.Locals.{is_idle}
-use Rattle.rht_core.specs.Runs.{Core, local_of, IsAdmittedCall}
+use Rattle.rht_core.specs.Runs.{Core, local_of}
 use Rattle.rht_core.specs.Closing.{current_size}
 use Rattle.rht_script.specs.declared.script.Script.{Script}
 use Rattle.rht_script.specs.declared.script.Sched.{Sched}
 use Rattle.rht_script.specs.declared.script.Sched.TheVariants.{Step, Skip, Finish}
-use Rattle.rht_script.specs.Sound.{IsSoundScript, is_sound_command, is_sound_line}
+use Rattle.rht_script.specs.Sound.{IsSoundScript, is_sound_line}
 use Rattle.rht_script.specs.Text.{bound_text}
 use Rattle.rht_script.specs.OperationText.{size_line}
 use Rattle.rht_registry.specs.declared.replaying.player.Player.{Player}
 use Rattle.rht_registry.specs.Replays.{Playing, schedule_played, playing_from, bound_in, callers_of, open_text, end_text, replay_text, IsInRun}
 use Rattle.rht_registry.specs.Players.{playing_of, IsLineFor}
 use Rattle.rht_registry.proofs.OneEnvironment.{Env-same}
-use Rattle.rht_registry.proofs.SoundCommands.{IsCommandFor, sound-commands, sound-calls}
+use Rattle.rht_registry.proofs.SoundCommands.{sound-calls}
 use Rattle.rht_registry.proofs.ReplayRuns.{replay-runs}
 
 -- ---- the lines at the end

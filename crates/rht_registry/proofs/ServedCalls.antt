@@ -1,7 +1,6 @@
 -- How a worker gets on: the calls that a command has added to its pass are served behind the others, and a command of another worker
 -- changes nothing.
-use Rattle.std.proofs.Common.{◌≡◌, ◌≢◌, ℕ, ◌+◌, ◌<◌, ◌≤◌, Bool, true, false, List, [], ◌∷◌, ◌++◌, length, take, get_or, refl, sym, ◌∙◌, ap, subst, cond}
-use Rattle.std.specs.Prelude.{◌==◌}
+use Rattle.std.proofs.Common.{◌≡◌, ◌≢◌, ℕ, ◌+◌, ◌<◌, ◌≤◌, Bool, List, [], ◌∷◌, ◌++◌, length, take, get_or, refl, sym, ◌∙◌, ap, subst, cond}
 use Rattle.std.proofs.lemmas.Bool.{eq-eqb, ne_eqb}
 use Rattle.std.proofs.lemmas.List.{append-nil, take_all, take_more}
 use Rattle.rht_model.specs.declared.history.Call.{Call}
@@ -14,23 +13,10 @@ use Rattle.rht_run.specs.Passes.{IsNew}
 use Rattle.rht_run.specs.Served.{HasServed}
 use Rattle.rht_run.specs.Workers.{HasServedCalls}
 use Rattle.rht_run.proofs.ServedWorkers.{HasServedCalls-new, HasServedCalls-more}
+use Rattle.rht_workers.proofs.WorkerCommands.{calls_of-append}
 use Rattle.rht_registry.specs.Outcomes.{HasServedWorker}
 
 -- ---- the calls of a worker
-
--- a command in front of two lists, whether or not it is the worker's
-with_own : (own : Bool) (call : Call) (whole calls more : List Call) → whole ≡ calls ++ more
-    → cond own (call ∷ whole) whole ≡ cond own (call ∷ calls) calls ++ more
-with_own true call whole calls more is = ap (λ l. call ∷ l) is
-with_own false call whole calls more is = is
-
--- by induction over the commands
-calls_of-append : (worker : ℕ) (commands more : List (ℕ × Call))
-    → calls_of worker (commands ++ more) ≡ calls_of worker commands ++ calls_of worker more
-calls_of-append worker [] more = refl
-calls_of-append worker (command ∷ commands) more =
-    with_own (command.0 == worker) command.1 (calls_of worker (commands ++ more)) (calls_of worker commands)
-    (calls_of worker more) (calls_of-append worker commands more)
 
 -- a command of its own comes last among its calls
 pub calls_of-own : (worker : ℕ) (commands : List (ℕ × Call)) (call : Call)

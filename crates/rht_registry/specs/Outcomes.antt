@@ -1,5 +1,5 @@
 -- What the workers of a script leave: each the calls of its commands, with the replies to them, on one table.
-use Rattle.std.specs.Prelude.{◌≡◌, ℕ, ◌+◌, ◌<◌, Bool, IfOk, Result, Ok, List, [], ◌∷◌, slice_index_or}
+use Rattle.std.specs.Prelude.{◌≡◌, ℕ, ◌+◌, Bool, List}
 use Rattle.rht_policy.specs.Mix.{mix_named}
 use Rattle.rht_model.specs.declared.history.Call.{Call}
 use Rattle.rht_model.specs.Endings.{Ending}
@@ -23,20 +23,7 @@ abbrev pub HasServedWorker : {M : Type 0} → (ℕ → ℕ → ℕ → ℕ) → 
 HasServedWorker mix t auto commands number pass endings =
     HasServedCalls mix t auto number (calls_of (number + 1) commands) pass endings
 
--- so has each worker below this number, in order, but those that memory ran out for
-abbrev pub HaveServed : {M E : Type 0} → (ℕ → ℕ → ℕ → ℕ) → Table M → Bool → List (ℕ × Call) → ℕ
-    → List (Result (Pass M × List Ending) E) → Type 0
-HaveServed {M} {E} mix t auto commands count left =
-    (i : ℕ) (default : Result (Pass M × List Ending) E) → i < count
-    → IfOk (slice_index_or left i default) (λ worked. HasServedWorker mix t auto commands i worked.0 worked.1)
-
 -- ---- all workers
-
--- passes and replies, place by place, where no worker ran out of memory
-abbrev pub side_by_side : {P R E : Type 0} → List P → List R → List (Result (P × R) E)
-side_by_side [] replies = []
-side_by_side (pass ∷ passes) [] = []
-side_by_side (pass ∷ passes) (own ∷ replies) = Ok (pass, own) ∷ side_by_side passes replies
 
 -- the table has the script's config, and its passes have served the script's commands with these replies
 abbrev pub IsOutcome : (M : Type 0) → Script → Outcome M → Type 0

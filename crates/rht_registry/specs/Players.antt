@@ -1,6 +1,5 @@
 -- What a program that replays keeps, as the replay that it stands for, and what it has written.
 use Rattle.std.specs.Prelude.{◌≡◌, ℕ, ◌+◌, ◌≤◌, Option, Some, None, Result, Err, OnOk, OnErr, List, [], ◌∷◌, length, drop, replicate, slice_index}
-use Rattle.std.specs.List.{AllByRecursion}
 use Rattle.std.specs.Io.KnownBytes.{Appends}
 use Rattle.rht_words.specs.declared.env.Env.{Env}
 use Rattle.rht_io.specs.Told.{Rose, AppendsPrefix, Puts}

@@ -1,12 +1,12 @@
 -- The endings of a worker's calls, cut into those of its commands: the endings that belong to a command are told by themselves, whatever stands
 -- behind them. So a command more has its endings behind those of the others, and how the calls ended decides the answers.
-use Rattle.std.proofs.Common.{◌≡◌, ℕ, ◌==◌, Bool, true, false, cond, Option, Some, None, List, [], ◌∷◌, ◌++◌, length, take, drop, refl, sym, ◌∙◌, ap, subst, append_assoc}
+use Rattle.std.proofs.Common.{◌≡◌, Option, Some, None, List, [], ◌∷◌, ◌++◌, length, take, drop, refl, sym, ◌∙◌, ap, subst, append_assoc}
 use Rattle.std.proofs.lemmas.List.{append-nil}
 use Rattle.rht_model.specs.Endings.{Ending}
 use Rattle.rht_resume.specs.declared.resume.ResumeCall.{ResumeCall}
 use Rattle.rht_resume.specs.declared.resume.ResumeCall.TheVariants as asks
 use Rattle.rht_resume.specs.declared.resumed.Spot.{Spot}
-use Rattle.rht_resume.specs.Answers.{Answer, only_answer, answer_by, answer_of, calls_for, spot_after, own_endings, endings_behind, calls_in_turn, spot_left, AreAnswered, commands_of}
+use Rattle.rht_resume.specs.Answers.{Answer, only_answer, answer_by, answer_of, calls_for, spot_after, own_endings, endings_behind, calls_in_turn, spot_left, AreAnswered}
 use Rattle.rht_resume.specs.Pieces.{Outcome, begun, outcome_of}
 use Rattle.rht_resume.proofs.PieceLemmas.{own_from-over, own_from-first}
 
@@ -141,29 +141,3 @@ decides spot (ask ∷ asked) (answer ∷ answers) (other ∷ others) endings ans
     ap (λ a. a ∷ answers) first
     ∙ ap (λ l. other ∷ l)
     (decides (spot_after spot ask (own_endings spot ask endings)) asked answers others (endings_behind spot ask endings) answered.1 too.1)
-
--- ---- the commands of a worker
-
-with_command : (own : Bool) (ask : ResumeCall) (whole asked more : List ResumeCall) → whole ≡ asked ++ more
-    → cond own (ask ∷ whole) whole ≡ cond own (ask ∷ asked) asked ++ more
-with_command true ask whole asked more is = ap (λ l. ask ∷ l) is
-with_command false ask whole asked more is = is
-
-commands_of-append : (worker : ℕ) (commands more : List (ℕ × ResumeCall))
-    → commands_of worker (commands ++ more) ≡ commands_of worker commands ++ commands_of worker more
-commands_of-append worker [] more = refl
-commands_of-append worker (command ∷ commands) more =
-    with_command (command.0 == worker) command.1 (commands_of worker (commands ++ more)) (commands_of worker commands)
-    (commands_of worker more) (commands_of-append worker commands more)
-
-module _ (worker : ℕ) (commands : List (ℕ × ResumeCall)) (here : ℕ × ResumeCall) where
-  pub commands_of-own : (here.0 == worker) ≡ true → commands_of worker (commands ++ here ∷ []) ≡ commands_of worker commands ++ here.1 ∷ []
-  commands_of-own own =
-      commands_of-append worker commands (here ∷ [])
-      ∙ ap (λ b. commands_of worker commands ++ cond b (here.1 ∷ []) []) own
-
-  pub commands_of-other : (here.0 == worker) ≡ false → commands_of worker (commands ++ here ∷ []) ≡ commands_of worker commands
-  commands_of-other other =
-      commands_of-append worker commands (here ∷ [])
-      ∙ ap (λ b. commands_of worker commands ++ cond b (here.1 ∷ []) []) other
-      ∙ append-nil (commands_of worker commands)

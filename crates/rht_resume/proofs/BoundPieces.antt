@@ -1,6 +1,6 @@
 -- What is so of each pair that the walks of a `next` show is so of each pair of its piece. In every run a walk shows ports with their first
 -- owners, each behind some event of it; so a piece does.
-use Rattle.std.proofs.Common.{◌≡◌, ℕ, zero, suc, ◌+◌, ◌-◌, ◌≤◌, ◌==◌, nat_lt, Bool, true, false, if◌then◌else◌, Option, Some, None, List, [], ◌∷◌, ◌++◌, length, map, take, drop, refl, sym, ◌∙◌, ap, subst, arith}
+use Rattle.std.proofs.Common.{◌≡◌, ℕ, zero, suc, ◌-◌, ◌==◌, nat_lt, Bool, true, false, if◌then◌else◌, Option, Some, None, List, [], ◌∷◌, ◌++◌, length, map, take, drop, refl, sym, subst, arith}
 use Rattle.std.specs.List.{AllByRecursion}
 use Rattle.rht_words.specs.declared.env.Env.{Env}
 use Rattle.rht_words.proofs.EachElement.{AllByRecursion-append, AllByRecursion-weaker, AllByRecursion-both}
@@ -12,14 +12,14 @@ use Rattle.rht_model.specs.declared.history.Reply.TheVariants as replies
 use Rattle.rht_model.specs.Endings.{Ending, ending_in}
 use Rattle.rht_core.specs.declared.event.Event.{Event}
 use Rattle.rht_core.specs.Runs.{IsAdmitted}
-use Rattle.rht_core.specs.Shown.{AreAmong, ShowsBound, ends_behind}
-use Rattle.rht_core.specs.Traces.{Past, traced_of, behind_call}
+use Rattle.rht_core.specs.Shown.{AreAmong, ShowsBound}
+use Rattle.rht_core.specs.Traces.{Past, traced_of}
 use Rattle.rht_core.proofs.Tracing.TracesAtEvents.{at_events}
 use Rattle.rht_core.proofs.Walking.FullWalks.{AreApart, among-apart, among-all}
 use Rattle.rht_core.proofs.Walking.ShownLaw.{shown_bound}
 use Rattle.rht_resume.specs.declared.resumed.Spot.{Spot}
 use Rattle.rht_resume.specs.Laws.{NextMade, IsNextFrom, IsBoundBetween, PiecesShowBound, walks_in, begins_at, ends_at, endings_in}
-use Rattle.rht_resume.specs.Pieces.{Outcome, Turn, On, Over, Never, before, start, behind_answer, taking, turn_by, turn_of, outcome_by, outcome_from, walks_by, walks_from}
+use Rattle.rht_resume.specs.Pieces.{Outcome, Turn, On, Over, Never, before, behind_answer, turn_by, turn_of, outcome_by, outcome_from, walks_by, walks_from}
 use Rattle.rht_resume.proofs.PieceLaws.{some_in}
 use Rattle.rht_resume.proofs.QuietWalks.{LiesBetween, each-between}
 

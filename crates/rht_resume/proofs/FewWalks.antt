@@ -1,6 +1,6 @@
 -- In every run the walks of a `next` rise within one table: each but the last ends with a cursor to a later bucket of the table that it found, and
 -- the next one goes on there. So there are no more of them than such a table has buckets.
-use Rattle.std.proofs.Common.{◌≡◌, ℕ, ◌+◌, ◌-◌, ◌<◌, ◌≤◌, ◌⊎◌, Option, Some, None, List, [], ◌∷◌, ◌++◌, length, map, drop, slice_index, refl, sym, ◌∙◌, ap, subst, inl, inr, arith}
+use Rattle.std.proofs.Common.{◌≡◌, ℕ, ◌+◌, ◌<◌, ◌≤◌, ◌⊎◌, Option, Some, None, List, [], ◌∷◌, length, map, drop, slice_index, refl, sym, ◌∙◌, ap, subst, inl, inr, arith}
 use Rattle.std.specs.List.{AllByRecursion}
 use Rattle.rht_words.specs.declared.env.Env.{Env}
 use Rattle.rht_words.specs.Machines.{Performed}
@@ -12,20 +12,17 @@ use Rattle.rht_model.specs.declared.history.Call.TheVariants.{Walk}
 use Rattle.rht_model.specs.declared.history.Cursor.{Cursor}
 use Rattle.rht_model.specs.declared.history.Reply.{Reply}
 use Rattle.rht_model.specs.declared.history.Reply.TheVariants as replies
-use Rattle.rht_model.specs.Endings.{Ending, ending_in}
+use Rattle.rht_model.specs.Endings.{ending_in}
 use Rattle.rht_walk.specs.WalkLaws.{first_bucket, Fits}
-use Rattle.rht_core.specs.declared.event.Event.{Event}
 use Rattle.rht_core.specs.Lookups.{shape_found}
-use Rattle.rht_core.specs.Runs.{IsAdmitted}
-use Rattle.rht_core.specs.Shown.{AreAmong}
 use Rattle.rht_core.specs.Traces.{Did, Past, performed_of, traced_of}
 use Rattle.rht_core.specs.WalkCauses.{SawForWalk}
 use Rattle.rht_core.proofs.Tracing.WalksInRuns.{HasWalked, walked}
 use Rattle.rht_core.proofs.Walking.FullWalks.{among-all}
 use Rattle.rht_resume.specs.declared.resumed.Spot.{Spot}
-use Rattle.rht_resume.specs.Laws.{NextMade, IsNextFrom, GoesOnFrom, AreRising, AnyFindsTable, WalksRise, walks_in, endings_in}
-use Rattle.rht_resume.specs.Pieces.{Outcome, Turn, On, Over, Never, start, before, taking, turn_by, turn_of, outcome_by, outcome_from, walk_at, walks_by, walks_from}
-use Rattle.rht_resume.proofs.WalkSteps.{LeadsOn, on-taking}
+use Rattle.rht_resume.specs.Laws.{GoesOnFrom, AreRising, AnyFindsTable, WalksRise, walks_in, endings_in}
+use Rattle.rht_resume.specs.Pieces.{Outcome, Turn, On, Over, Never, before, turn_by, turn_of, outcome_by, outcome_from, walk_at, walks_by, walks_from}
+use Rattle.rht_resume.proofs.WalkSteps.{on-taking}
 
 -- ---- one walk
 

@@ -1,33 +1,26 @@
 -- In every run a resumed walk over words that stay shows just what is bound. Its walks find the words as they are behind any one event of the
 -- span, so they answer by the buckets that these have; and the pairs of these buckets are the bindings.
-use Rattle.std.proofs.Common.{◌≡◌, ◌≢◌, ℕ, zero, suc, ◌+◌, ◌-◌, ◌<◌, ◌≤◌, List, [], ◌∷◌, ◌++◌, length, map, take, slice_index, Option, Some, None, refl, sym, ap, ◌∙◌, subst, inl, inr, arith}
+use Rattle.std.proofs.Common.{◌≡◌, ℕ, zero, suc, ◌+◌, ◌-◌, ◌<◌, ◌≤◌, List, [], ◌∷◌, ◌++◌, map, take, slice_index, refl, sym, ap, ◌∙◌, subst, inl, inr, arith}
 use Rattle.std.specs.List.{AllByRecursion, flat_map, range_with_len}
 use Rattle.std.proofs.lemmas.Bool.{cases_lt}
 use Rattle.std.proofs.lemmas.List.{append-nil}
 use Rattle.rht_words.specs.declared.env.Env.{Env}
-use Rattle.rht_words.specs.declared.op.Op.{Op}
-use Rattle.rht_words.specs.declared.op.Op.TheVariants.{Load}
-use Rattle.rht_words.specs.Machines.{Performed}
 use Rattle.rht_words.specs.Operations.{old_of}
-use Rattle.rht_words.proofs.EachElement.{AllByRecursion-weaker, AllByRecursion-both, AllByRecursion-map}
-use Rattle.rht_model.specs.declared.history.Cursor.{Cursor}
-use Rattle.rht_model.specs.declared.history.Call.TheVariants.{Walk}
-use Rattle.rht_model.specs.declared.history.Reply.{Reply}
-use Rattle.rht_model.specs.declared.history.Reply.TheVariants.{Walked}
+use Rattle.rht_words.proofs.EachElement.{AllByRecursion-weaker, AllByRecursion-both}
 use Rattle.rht_core.specs.declared.event.Event.{Event}
 use Rattle.rht_core.specs.Laws.{IsRecorded, IsPastCall}
-use Rattle.rht_core.specs.Runs.{IsAdmitted, IsAdmittedEvent}
+use Rattle.rht_core.specs.Runs.{IsAdmitted}
 use Rattle.rht_core.specs.Seen.{words_before}
 use Rattle.rht_core.specs.Shown.{AreAmong, ends_behind}
 use Rattle.rht_core.specs.Traces.{Did, Past, performed_of, traced_of, IsRising, AreInOrder, behind_call}
 use Rattle.rht_core.specs.WalkCauses.{SawForWalk}
-use Rattle.rht_core.proofs.Tracing.StepsInTraces.{LiesWithin, rising-within, from-behind}
+use Rattle.rht_core.proofs.Tracing.StepsInTraces.{LiesWithin, rising-within}
 use Rattle.rht_core.proofs.Tracing.TracesAtEvents.{at_events}
 use Rattle.rht_core.proofs.Tracing.WalksInRuns.{HasWalked, walked}
 use Rattle.rht_core.proofs.Walking.FullWalks.{AreApart, among-apart, among-all}
-use Rattle.rht_resume.specs.Laws.{NextMade, IsResumedWalk, IsNoSection, IsStill, AreAllBound, ShowsAllOnce, all_walks, all_pairs, walks_in, begins_at, ends_at, ends_with}
+use Rattle.rht_resume.specs.Laws.{NextMade, IsResumedWalk, IsNoSection, IsStill, AreAllBound, ShowsAllOnce, all_walks, all_pairs, begins_at, ends_at, ends_with}
 use Rattle.rht_resume.specs.Pieces.{start}
-use Rattle.rht_resume.proofs.StillBuckets.{AnswersBy, pairs_up, bucket_pairs, size_now, all_bucket_pairs, IsNoneBehind, FindsHere}
+use Rattle.rht_resume.proofs.StillBuckets.{bucket_pairs, size_now, IsNoneBehind, FindsHere}
 use Rattle.rht_resume.proofs.StillWalks.{still_walk}
 use Rattle.rht_resume.proofs.WholePieces.{WalkedBy, whole}
 use Rattle.rht_resume.proofs.CurrentBound.{CurrentShows, current_shows, buckets_show}

@@ -1,10 +1,9 @@
 -- What the commands of a script say of the calls that they stand for: a `next` stands for walks alone, which want no node, bind nothing and
 -- leave the bindings as they are. So no more calls want a node than commands bind or rebind, and they bind no other ports. Where the table is
 -- roomy for the commands, it is roomy for the calls; and where it is enough for the plain calls of one worker, it is enough for all its calls.
-use Rattle.std.proofs.Common.{◌≡◌, ℕ, zero, suc, ◌+◌, ◌<◌, ◌≤◌, ◌==◌, ◌&&◌, nat_lt, Bool, true, false, cond, Option, Some, List, [], ◌∷◌, ◌++◌, length, take, map, get_or, refl, ◌∙◌, ap, subst, inl, inr, eq-eqb, arith}
+use Rattle.std.proofs.Common.{◌≡◌, ℕ, zero, suc, ◌<◌, ◌≤◌, false, Option, Some, List, [], ◌∷◌, ◌++◌, length, take, get_or, refl, ◌∙◌, ap, subst, arith}
 use Rattle.std.specs.Prelude.{count_by}
 use Rattle.std.specs.List.{AllByRecursion}
-use Rattle.std.proofs.lemmas.Bool.{cases_lt, ne_eqb, lt-ltb, le-ltb}
 use Rattle.std.proofs.lemmas.List.Sums.{sum_by-cons, sum_by-append}
 use Rattle.rht_words.proofs.EachElement.{AllByRecursion-append}
 use Rattle.rht_words.specs.declared.config.Config.{Config}
@@ -18,10 +17,11 @@ use Rattle.rht_core.specs.FewPorts.{BindsAmong}
 use Rattle.rht_core.specs.NeverRefused.{IsRoomyFor, bindings_after_all, IsSmallFor}
 use Rattle.rht_core.specs.NodesUsed.{needs_node}
 use Rattle.rht_core.specs.Serving.{calls_of}
+use Rattle.rht_workers.proofs.WorkerCommands.{one_if, commands_of-each, calls_from-each, all_calls_want, first_calls_want}
 use Rattle.rht_resume.specs.declared.resume.ResumeCall.{ResumeCall}
 use Rattle.rht_resume.specs.declared.resume.ResumeCall.TheVariants as asks
 use Rattle.rht_resume.specs.declared.resumed.Spot.{Spot}
-use Rattle.rht_resume.specs.Answers.{calls_for, spot_after, own_endings, endings_behind, calls_in_turn, commands_of, calls_by, calls_from, all_calls}
+use Rattle.rht_resume.specs.Answers.{calls_for, spot_after, own_endings, endings_behind, calls_in_turn, commands_of, own_calls, all_calls}
 use Rattle.rht_resume.specs.Pieces.{Turn, On, Over, Never, start, begun, turn_of, walk_at, walks_by, walks_from, walks_of}
 use Rattle.rht_resume.specs.Laws.{asks_node, AsksAmong, plain_calls, OutnumbersByCommands, IsRoomyForPieces, TakesAllWhereRoomy, IsSmallForPieces, AnswersAsModel}
 use Rattle.rht_resume.proofs.ResumeRuns.{calls_of-all}
@@ -47,10 +47,6 @@ module _ (P : Call → Type 0) (walk : (spot : Spot) → P (walk_at spot)) (limi
   walks_of-each spot endings = walks_from-each spot [] endings
 
 -- ---- nodes
-
--- a number by a test
-abbrev one_if : Bool → ℕ
-one_if test = cond test 1 0
 
 -- such calls want none
 want_none : (calls : List Call) → AllByRecursion (λ call. needs_node call ≡ false) calls → count_by needs_node calls ≡ 0
@@ -84,138 +80,16 @@ in_turn_wants spot (ask ∷ asked) endings =
       sum_by-cons (λ a. one_if (asks_node a)) ask asked,
     )
 
--- the same with the worker beside each call
-calls_by_wants : (worker : ℕ) (calls : List Call)
-    → count_by (λ (command : ℕ × Call). needs_node command.1) (map (λ call. (worker, call)) calls) ≡ count_by needs_node calls
-calls_by_wants worker [] = refl
-calls_by_wants worker (call ∷ calls) =
-    omega (
-      arith,
-      calls_by_wants worker calls,
-      sum_by-cons (λ (command : ℕ × Call). one_if (needs_node command.1)) (worker, call) (map (λ c. (worker, c)) calls),
-      sum_by-cons (λ (c : Call). one_if (needs_node c)) call calls,
-    )
-
--- how many of a worker's commands pass a test
-count-commands_of : (test : ResumeCall → Bool) (worker : ℕ) (commands : List (ℕ × ResumeCall))
-    → count_by test (commands_of worker commands) ≡ count_by (λ command. (command.0 == worker) && test command.1) commands
-count-commands_of test worker [] = refl
-count-commands_of test worker (command ∷ commands) =
-    by_test (command.0 == worker) refl (count-commands_of test worker commands)
-  where
-    by_test : (mine : Bool) → (command.0 == worker) ≡ mine
-        → count_by test (commands_of worker commands) ≡ count_by (λ c. (c.0 == worker) && test c.1) commands
-        → count_by test (cond (command.0 == worker) (command.1 ∷ commands_of worker commands) (commands_of worker commands))
-        ≡ count_by (λ c. (c.0 == worker) && test c.1) (command ∷ commands)
-    by_test true mine behind =
-        let first = sum_by-cons (λ (c : ℕ × ResumeCall). one_if ((c.0 == worker) && test c.1)) command commands in
-        let own : count_by test (cond (command.0 == worker) (command.1 ∷ commands_of worker commands) (commands_of worker commands))
-        ≡ one_if (test command.1) + count_by test (commands_of worker commands) =
-        ap (λ b. count_by test (cond b (command.1 ∷ commands_of worker commands) (commands_of worker commands))) mine
-        ∙ sum_by-cons (λ a. one_if (test a)) command.1 (commands_of worker commands) in
-        let here : one_if ((command.0 == worker) && test command.1) ≡ one_if (test command.1) =
-        ap (λ b. one_if (b && test command.1)) mine in
-        omega (arith, first, own, here, behind)
-    by_test false mine behind =
-        let first = sum_by-cons (λ (c : ℕ × ResumeCall). one_if ((c.0 == worker) && test c.1)) command commands in
-        let own : count_by test (cond (command.0 == worker) (command.1 ∷ commands_of worker commands) (commands_of worker commands))
-        ≡ count_by test (commands_of worker commands) =
-        ap (λ b. count_by test (cond b (command.1 ∷ commands_of worker commands) (commands_of worker commands))) mine in
-        let here : one_if ((command.0 == worker) && test command.1) ≡ 0 =
-        ap (λ b. one_if (b && test command.1)) mine in
-        omega (arith, first, own, here, behind)
-
--- a command of a worker from this one on is that worker's, or one further on
-one_of : (asks : Bool) (n worker : ℕ)
-    → one_if ((n == worker) && asks) + one_if (nat_lt (worker + 1) (n + 1) && asks) ≤ one_if (nat_lt worker (n + 1) && asks)
-one_of asks n worker = elim (cases_lt worker n) [
-  | inl more ↦
-      let other : (n == worker) ≡ false = ne_eqb n worker (λ same. absurd (omega (arith, same, more))) in
-      let behind : nat_lt (worker + 1) (n + 1) ≡ true = lt-ltb (worker + 1) (n + 1) (omega (arith, more)) in
-      let here : nat_lt worker (n + 1) ≡ true = lt-ltb worker (n + 1) (omega (arith, more)) in
-      omega (
-        arith,
-        ap (λ b. one_if (b && asks)) other,
-        ap (λ b. one_if (b && asks)) behind,
-        ap (λ b. one_if (b && asks)) here,
-      )
-  | inr less ↦ elim (cases_lt n worker) [
-    | inl below ↦
-        let other : (n == worker) ≡ false = ne_eqb n worker (λ same. absurd (omega (arith, same, below))) in
-        let behind : nat_lt (worker + 1) (n + 1) ≡ false = le-ltb (worker + 1) (n + 1) (omega (arith, below)) in
-        omega (arith, ap (λ b. one_if (b && asks)) other, ap (λ b. one_if (b && asks)) behind)
-    | inr same ↦
-        let own : (n == worker) ≡ true = eq-eqb n worker (omega (arith, same, less)) in
-        let behind : nat_lt (worker + 1) (n + 1) ≡ false = le-ltb (worker + 1) (n + 1) (omega (arith, less)) in
-        let here : nat_lt worker (n + 1) ≡ true = lt-ltb worker (n + 1) (omega (arith, same)) in
-        omega (
-          arith,
-          ap (λ b. one_if (b && asks)) own,
-          ap (λ b. one_if (b && asks)) behind,
-          ap (λ b. one_if (b && asks)) here,
-        )
-  ]
-]
-
--- the commands that ask for a node, of workers from this one on
-abbrev from_asks : ℕ → List (ℕ × ResumeCall) → ℕ
-from_asks worker commands = count_by (λ command. nat_lt worker (command.0 + 1) && asks_node command.1) commands
-
-abbrev own_asks : ℕ → List (ℕ × ResumeCall) → ℕ
-own_asks worker commands = count_by (λ command. (command.0 == worker) && asks_node command.1) commands
-
-from_step : (worker : ℕ) (commands : List (ℕ × ResumeCall))
-    → own_asks worker commands + from_asks (worker + 1) commands ≤ from_asks worker commands
-from_step worker [] = omega arith
-from_step worker (command ∷ commands) =
-    omega (
-      arith,
-      from_step worker commands,
-      one_of (asks_node command.1) command.0 worker,
-      sum_by-cons (λ (c : ℕ × ResumeCall). one_if ((c.0 == worker) && asks_node c.1)) command commands,
-      sum_by-cons (λ (c : ℕ × ResumeCall). one_if (nat_lt (worker + 1) (c.0 + 1) && asks_node c.1)) command commands,
-      sum_by-cons (λ (c : ℕ × ResumeCall). one_if (nat_lt worker (c.0 + 1) && asks_node c.1)) command commands,
-    )
-
-one_less : (first second : Bool) → one_if (first && second) ≤ one_if second
-one_less true second = omega arith
-one_less false second = omega arith
-
-from_all : (worker : ℕ) (commands : List (ℕ × ResumeCall)) → from_asks worker commands ≤ count_by (λ command. asks_node command.1) commands
-from_all worker [] = omega arith
-from_all worker (command ∷ commands) =
-    omega (
-      arith,
-      from_all worker commands,
-      one_less (nat_lt worker (command.0 + 1)) (asks_node command.1),
-      sum_by-cons (λ (c : ℕ × ResumeCall). one_if (nat_lt worker (c.0 + 1) && asks_node c.1)) command commands,
-      sum_by-cons (λ (c : ℕ × ResumeCall). one_if (asks_node c.1)) command commands,
-    )
-
--- by induction over the workers
-calls_from_want : (worker : ℕ) (commands : List (ℕ × ResumeCall)) (endings : List (List Ending))
-    → count_by (λ (command : ℕ × Call). needs_node command.1) (calls_from worker commands endings) ≤ from_asks worker commands
-calls_from_want worker commands [] = omega arith
-calls_from_want worker commands (own ∷ endings) =
-    let asked = commands_of worker commands in
-    omega (
-      arith,
-      sum_by-append (λ (command : ℕ × Call). one_if (needs_node command.1)) (calls_by worker commands own)
-          (calls_from (worker + 1) commands endings),
-      calls_by_wants worker (calls_in_turn (Some start) asked own),
-      in_turn_wants (Some start) asked own,
-      count-commands_of asks_node worker commands,
-      calls_from_want (worker + 1) commands endings,
-      from_step worker commands,
-    )
-
-all_calls_want : (commands : List (ℕ × ResumeCall)) (endings : List (List Ending))
+-- and so for all workers
+all_want : (commands : List (ℕ × ResumeCall)) (endings : List (List Ending))
     → count_by (λ (command : ℕ × Call). needs_node command.1) (all_calls commands endings)
     ≤ count_by (λ command. asks_node command.1) commands
-all_calls_want commands endings = omega (arith, calls_from_want 1 commands endings, from_all 1 commands)
+all_want commands endings =
+    all_calls_want asks_node (own_calls commands) needs_node commands (λ worker own. in_turn_wants (Some start) (commands_of worker commands) own)
+    endings
 
 pub outnumbers : OutnumbersByCommands
-outnumbers config commands endings more = omega (arith, more, all_calls_want commands endings)
+outnumbers config commands endings more = omega (arith, more, all_want commands endings)
 
 -- ---- ports
 
@@ -235,42 +109,18 @@ module _ (ports : List Port) where
       AllByRecursion-append (BindsAmong ports) (calls_for spot ask own) (calls_in_turn next asked behind)
       (among-for spot ask own among.0) (among-turn next asked behind among.1)
 
-  among-own : (worker : ℕ) (commands : List (ℕ × ResumeCall)) → AllByRecursion (λ command. AsksAmong ports command.1) commands
-      → AllByRecursion (AsksAmong ports) (commands_of worker commands)
-  among-own worker [] among = tt
-  among-own worker (command ∷ commands) among =
-      by_test (command.0 == worker) (among-own worker commands among.1)
-    where
-      by_test : (mine : Bool) → AllByRecursion (AsksAmong ports) (commands_of worker commands)
-          → AllByRecursion (AsksAmong ports) (cond mine (command.1 ∷ commands_of worker commands) (commands_of worker commands))
-      by_test true behind = (among.0, behind)
-      by_test false behind = behind
-
-  among-by : (worker : ℕ) (calls : List Call) → AllByRecursion (BindsAmong ports) calls
-      → AllByRecursion (λ (command : ℕ × Call). BindsAmong ports command.1) (map (λ call. (worker, call)) calls)
-  among-by worker [] among = tt
-  among-by worker (call ∷ calls) among = (among.0, among-by worker calls among.1)
-
-  among-from : (worker : ℕ) (commands : List (ℕ × ResumeCall)) (endings : List (List Ending))
-      → AllByRecursion (λ command. AsksAmong ports command.1) commands
-      → AllByRecursion (λ (command : ℕ × Call). BindsAmong ports command.1) (calls_from worker commands endings)
-  among-from worker commands [] among = tt
-  among-from worker commands (own ∷ endings) among =
-      AllByRecursion-append (λ (command : ℕ × Call). BindsAmong ports command.1) (calls_by worker commands own)
-      (calls_from (worker + 1) commands endings)
-      (among-by worker (calls_in_turn (Some start) (commands_of worker commands) own)
-      (among-turn (Some start) (commands_of worker commands) own (among-own worker commands among)))
-      (among-from (worker + 1) commands endings among)
-
 IsRoomyFor-calls : (config : Config) (commands : List (ℕ × ResumeCall)) (endings : List (List Ending)) → IsRoomyForPieces config commands
     → IsRoomyFor config (all_calls commands endings)
 IsRoomyFor-calls config commands endings roomy = record {
   first = roomy.first;
   keeps_size = roomy.keeps_size;
-  nodes = (let enough = roomy.nodes in omega (arith, enough, all_calls_want commands endings));
+  nodes = (let enough = roomy.nodes in omega (arith, enough, all_want commands endings));
   ports = roomy.ports;
   few = roomy.few;
-  among = among-from roomy.ports 1 commands endings roomy.among;
+  among =
+      calls_from-each (own_calls commands) (BindsAmong roomy.ports)
+      (λ worker own. among-turn roomy.ports (Some start) (commands_of worker commands) own
+      (commands_of-each (AsksAmong roomy.ports) worker commands roomy.among)) 1 endings;
 }
 
 pub takes_all : TakesAllWhereRoomy
@@ -326,17 +176,6 @@ module _ (kind : Kind) where
 
 -- ---- one worker
 
-own_less : (worker : ℕ) (commands : List (ℕ × ResumeCall)) → own_asks worker commands ≤ count_by (λ command. asks_node command.1) commands
-own_less worker [] = omega arith
-own_less worker (command ∷ commands) =
-    omega (
-      arith,
-      own_less worker commands,
-      one_less (command.0 == worker) (asks_node command.1),
-      sum_by-cons (λ (c : ℕ × ResumeCall). one_if ((c.0 == worker) && asks_node c.1)) command commands,
-      sum_by-cons (λ (c : ℕ × ResumeCall). one_if (asks_node c.1)) command commands,
-    )
-
 IsSmallFor-calls : (config : Config) (commands : List (ℕ × ResumeCall)) (endings : List (List Ending)) → length endings ≡ config.callers
     → IsSmallForPieces config commands → IsSmallFor config (calls_of 1 (all_calls commands endings))
 IsSmallFor-calls config commands endings workers small =
@@ -351,10 +190,8 @@ IsSmallFor-calls config commands endings workers small =
       nodes = (let enough = small.nodes in
           omega (
             arith,
-            ap (count_by needs_node) calls,
-            in_turn_wants (Some start) asked own,
-            count-commands_of asks_node 1 commands,
-            own_less 1 commands,
+            first_calls_want asks_node (own_calls commands) needs_node commands
+                (λ worker own. in_turn_wants (Some start) (commands_of worker commands) own) [] endings some,
             enough,
           ));
       few = λ n bound.

@@ -11,15 +11,18 @@ use Rattle.rht_run.specs.Served.{HasServed}
 use Rattle.rht_run.specs.Passes.{IsNew}
 use Rattle.rht_run.specs.Workers.{HasServedCalls}
 use Rattle.rht_run.proofs.ServedWorkers.{HasServedCalls-new}
+use Rattle.rht_workers.specs.WorkerCalls.{HasServedEach}
+use Rattle.rht_workers.proofs.ServedEach.{HasServedEach-one, HasServedCalls-each}
+use Rattle.rht_workers.proofs.WorkerCommands.{commands_of-own, commands_of-other}
 use Rattle.rht_resume.specs.declared.resume.Piece.{Piece}
 use Rattle.rht_resume.specs.declared.resume.ResumeCall.{ResumeCall}
 use Rattle.rht_resume.specs.declared.resume.ResumeCall.TheVariants as asks
 use Rattle.rht_resume.specs.declared.worker.Worker.{Worker}
 use Rattle.rht_resume.specs.Answers.{plain_answer, next_answer, answer_by, answer_of, calls_for, spot_after, AreAnswered, calls_in_turn, spot_left, commands_of}
 use Rattle.rht_resume.specs.Pieces.{Walking, start, begun, unbegun, spot_by, outcome_of}
-use Rattle.rht_resume.specs.ServedPieces.{HasResumed, HasServedEach, HasDone, IsWorking, outcome_with}
-use Rattle.rht_resume.proofs.AnswerLemmas.{push-answered, commands_of-own, commands_of-other}
-use Rattle.rht_resume.proofs.ServedCommands.{HasServedEach-one, HasServedEach-next, HasServedCalls-each}
+use Rattle.rht_resume.specs.ServedPieces.{HasResumed, HasDone, IsWorking, outcome_with}
+use Rattle.rht_resume.proofs.AnswerLemmas.{push-answered}
+use Rattle.rht_resume.proofs.ServedCommands.{HasServedEach-next}
 
 -- ---- one command of a worker
 

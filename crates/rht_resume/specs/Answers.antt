@@ -1,11 +1,13 @@
 -- What the commands of resume scripts are answered: each by how the calls ended that it stands for, and by where its worker's walk was then.
 -- The calls of a worker end one behind the other. Which of them belong to a command is told by their answers alone: a plain command has one, and
 -- a `next` has those up to the first that ends it.
-use Rattle.std.specs.Prelude.{◌≡◌, ℕ, ◌+◌, ◌<◌, ◌==◌, if◌then◌else◌, Option, None, Some, List, [], ◌∷◌, ◌++◌, length, take, drop, map, slice_index_or}
+use Rattle.std.specs.Prelude.{◌≡◌, ℕ, ◌+◌, ◌<◌, Option, None, Some, List, [], ◌∷◌, ◌++◌, length, take, drop, slice_index_or}
 use Rattle.rht_words.specs.declared.config.Config.{Config}
 use Rattle.rht_model.specs.declared.history.Call.{Call}
 use Rattle.rht_model.specs.Endings.{Ending}
 use Rattle.rht_model.specs.Multimap.{Port}
+use Rattle.rht_workers.specs.WorkerCalls.{calls_from}
+pub use Rattle.rht_workers.specs.WorkerCalls.{commands_of}
 use Rattle.rht_resume.specs.declared.resume.Piece.{Piece}
 use Rattle.rht_resume.specs.declared.resume.ResumeCall.{ResumeCall}
 use Rattle.rht_resume.specs.declared.resume.ResumeCall.TheVariants as asks
@@ -90,24 +92,12 @@ AreAnswered spot (ask ∷ asked) (answer ∷ answers) endings =
 
 -- ---- all workers
 
--- the commands of a worker among those of all, each with its worker
-abbrev pub commands_of : ℕ → List (ℕ × ResumeCall) → List ResumeCall
-commands_of worker [] = []
-commands_of worker (command ∷ commands) =
-    if command.0 == worker then command.1 ∷ commands_of worker commands else commands_of worker commands
-
--- the calls that a worker's commands stand for, each with the worker, where they ended so; its walk is at the start at first
-abbrev pub calls_by : ℕ → List (ℕ × ResumeCall) → List Ending → List (ℕ × Call)
-calls_by worker commands endings = map (λ call. (worker, call)) (calls_in_turn (Some start) (commands_of worker commands) endings)
-
--- the same of workers who are counted on from this number, where the calls of each ended so: those of the first worker, then those of the
--- second, and so on
-abbrev pub calls_from : ℕ → List (ℕ × ResumeCall) → List (List Ending) → List (ℕ × Call)
-calls_from worker commands [] = []
-calls_from worker commands (own ∷ others) = calls_by worker commands own ++ calls_from (worker + 1) commands others
+-- the calls that the commands of all workers stand for, each with its worker, where they ended so; a walk is at the start at first
+abbrev pub own_calls : List (ℕ × ResumeCall) → ℕ → List Ending → List Call
+own_calls commands worker endings = calls_in_turn (Some start) (commands_of worker commands) endings
 
 abbrev pub all_calls : List (ℕ × ResumeCall) → List (List Ending) → List (ℕ × Call)
-all_calls commands endings = calls_from 1 commands endings
+all_calls commands endings = calls_from (own_calls commands) 1 endings
 
 -- The commands of each worker are answered so, where the calls that they stand for ended so, each worker's at its place.
 pub record AreAllAnswered (config : Config) (commands : List (ℕ × ResumeCall)) (answers : List (List Answer)) (endings : List (List Ending))

@@ -1,19 +1,15 @@
 -- What calls of a resumed walk and a worker's commands leave of its pass.
-use Rattle.std.specs.Prelude.{◌≡◌, ℕ, ◌+◌, ◌<◌, ◌≤◌, Bool, true, Option, None, Some, MatchOption, IfOk, IfSome, Result, Ok, List, [], ◌∷◌, ◌++◌, length, slice_index_or}
-use Rattle.rht_words.specs.declared.config.Config.{Config}
-use Rattle.rht_model.specs.declared.finished.Finished.{Finished}
-use Rattle.rht_model.specs.declared.history.Call.{Call}
+use Rattle.std.specs.Prelude.{◌≡◌, ℕ, ◌<◌, ◌≤◌, Bool, true, Option, None, Some, MatchOption, IfSome, List, [], ◌∷◌, ◌++◌, length}
 use Rattle.rht_model.specs.declared.history.Call.TheVariants.{Walk}
 use Rattle.rht_model.specs.declared.history.Cursor.{Cursor}
 use Rattle.rht_model.specs.declared.history.Reply.TheVariants as replies
 use Rattle.rht_model.specs.Endings.{Ending, ended_with}
 use Rattle.rht_core.specs.Locals.{is_idle}
-use Rattle.rht_core.specs.Serving.{Serves}
 use Rattle.rht_run.specs.declared.pass.Pass.{Pass}
 use Rattle.rht_run.specs.declared.table.Table.{Table}
 use Rattle.rht_run.specs.Caused.{IsCaused}
 use Rattle.rht_run.specs.Passes.{IsPassOf, IsSamePass, book_of}
-use Rattle.rht_run.specs.Workers.{HasServedCalls}
+use Rattle.rht_workers.specs.WorkerCalls.{HasServedEach, HasServedBy}
 use Rattle.rht_walk.specs.WalkLaws.{first_bucket}
 use Rattle.rht_resume.specs.declared.resume.Piece.{Piece}
 use Rattle.rht_resume.specs.declared.resume.Piece.TheVariants.{Part, End, Again}
@@ -21,7 +17,7 @@ use Rattle.rht_resume.specs.declared.resume.ResumeCall.{ResumeCall}
 use Rattle.rht_resume.specs.declared.resume.ResumeScript.{ResumeScript}
 use Rattle.rht_resume.specs.declared.resumed.Spot.{Spot}
 use Rattle.rht_resume.specs.declared.worker.Worker.{Worker}
-use Rattle.rht_resume.specs.Answers.{Answer, answer_of, calls_for, spot_after, AreAnswered, calls_in_turn, spot_left, commands_of}
+use Rattle.rht_resume.specs.Answers.{Answer, answer_of, calls_for, spot_after, AreAnswered, calls_in_turn, spot_left}
 use Rattle.rht_resume.specs.Pieces.{Walking, Outcome, Turn, On, Over, start, begun, before, turn_of, outcome_of, walks_of, walk_at, ended_each}
 use Rattle.rht_resume.specs.Scripts.{IsSoundResume}
 
@@ -88,18 +84,6 @@ pub record HasTurned {M : Type 0} (mix : ℕ → ℕ → ℕ → ℕ) (t : Table
   pub rises : piece ≡ None → IsLater spot new
   pub room : piece ≡ None → length new.pairs ≤ limit
 
--- ---- the pass
-
--- The pass is in no call. Its finished calls are those of `before`, and behind them those that serve these calls, which ended so; no other.
-pub record HasServedEach {M : Type 0} (mix : ℕ → ℕ → ℕ → ℕ) (t : Table M) (auto : Bool) (calls : List Call) (endings : List Ending)
-    (before now : Pass M) : Type 0 where
-  pub pass : IsPassOf mix t now
-  pub same : IsSamePass before now
-  pub idle : is_idle now.local ≡ true
-  pub more : List Finished
-  pub finished : (book_of now).finished ≡ (book_of before).finished ++ more
-  pub serves : Serves auto calls endings more
-
 -- ---- one worker
 
 -- the script can be run on this table
@@ -120,11 +104,9 @@ pub record HasDone {M : Type 0} (mix : ℕ → ℕ → ℕ → ℕ) (t : Table M
   pub served : HasServedEach mix t auto (calls_for old.resumed.spot ask endings) endings old.pass new.pass
 
 -- The pass has served the calls that these commands of its worker stand for, with a walk that was at its start, and these are their answers.
-pub record HasDoneAll {M : Type 0} (mix : ℕ → ℕ → ℕ → ℕ) (t : Table M) (auto : Bool) (asked : List ResumeCall) (number : ℕ) (pass : Pass M)
-    (answers : List Answer) : Type 0 where
-  pub endings : List Ending
-  pub answered : AreAnswered (Some start) asked answers endings
-  pub served : HasServedCalls mix t auto number (calls_in_turn (Some start) asked endings) pass endings
+abbrev pub HasDoneAll : {M : Type 0} → (ℕ → ℕ → ℕ → ℕ) → Table M → Bool → List ResumeCall → ℕ → Pass M → List Answer → Type 0
+HasDoneAll mix t auto asked number pass answers =
+    HasServedBy mix t auto (λ answers endings. calls_in_turn (Some start) asked endings) (AreAnswered (Some start) asked) number pass answers
 
 -- the same of a worker, whose walk is where these commands leave it
 pub record IsWorking {M : Type 0} (mix : ℕ → ℕ → ℕ → ℕ) (t : Table M) (auto : Bool) (asked : List ResumeCall) (number : ℕ)
@@ -132,28 +114,3 @@ pub record IsWorking {M : Type 0} (mix : ℕ → ℕ → ℕ → ℕ) (t : Table
   pub done : HasDoneAll mix t auto asked number worker.pass worker.replies
   pub spot : worker.resumed.spot ≡ spot_left (Some start) asked done.endings
   pub nodes : worker.resumed.nodes ≡ t.env.config.nodes
-
--- ---- all workers
-
--- so has each worker below this number, in order, but those that memory ran out for
-abbrev pub HaveDone : {M E : Type 0} → (ℕ → ℕ → ℕ → ℕ) → Table M → Bool → List (ℕ × ResumeCall) → ℕ
-    → List (Result (Pass M × List Answer) E) → Type 0
-HaveDone {M} {E} mix t auto commands count left =
-    (i : ℕ) (default : Result (Pass M × List Answer) E) → i < count
-    → IfOk (slice_index_or left i default) (λ worked. HasDoneAll mix t auto (commands_of (i + 1) commands) i worked.0 worked.1)
-
--- passes and answers, place by place, where no worker ran out of memory
-abbrev pub side_by_side : {P R E : Type 0} → List P → List R → List (Result (P × R) E)
-side_by_side [] answers = []
-side_by_side (pass ∷ passes) [] = []
-side_by_side (pass ∷ passes) (own ∷ answers) = Ok (pass, own) ∷ side_by_side passes answers
-
--- The table has this config, there are as many passes as callers, in order of their numbers, and each has served the calls that the commands
--- of its worker stand for, with the answers at its place.
-pub record HaveDoneAll {M : Type 0} (mix : ℕ → ℕ → ℕ → ℕ) (config : Config) (t : Table M) (auto : Bool) (commands : List (ℕ × ResumeCall))
-    (passes : List (Pass M)) (answers : List (List Answer)) : Type 0 where
-  pub config_same : t.env.config ≡ config
-  pub many : length passes ≡ config.callers
-  pub workers : length answers ≡ config.callers
-  pub each : (i : ℕ) (default : Pass M) → i < config.callers
-      → HasDoneAll mix t auto (commands_of (i + 1) commands) i (slice_index_or passes i default) (slice_index_or answers i [])

@@ -10,9 +10,9 @@ close-requires-clause-passes g c pass among =
     let mix = g.M.Mix.mix_of in
     let script = c.args.script.now in
     let left = c.in_ok-left.left in
-    let all = AreLeased-all mix script.config left.table script.auto script.commands.items left.passes.items left.replies.items
+    let all = AreLeased-all mix script.config left.table script.auto script.commands.items left.passes.items left.own.items
     c.in_ok-left.ensures in
-    HaveServedAll-passes mix script.config left.table script.auto (all_calls script.commands.items left.replies.items) left.passes.items
+    HaveServedAll-passes mix script.config left.table script.auto (all_calls script.commands.items left.own.items) left.passes.items
     all.endings all.served pass among
 
 pub returns-in-Ok : goal.returns-in-Ok
@@ -20,8 +20,8 @@ returns-in-Ok g c =
     let mix = g.M.Mix.mix_of in
     let script = c.args.script.now in
     let left = c.in_ok-left.left in
-    let calls = all_calls script.commands.items left.replies.items in
-    let all = AreLeased-all mix script.config left.table script.auto script.commands.items left.passes.items left.replies.items
+    let calls = all_calls script.commands.items left.own.items in
+    let all = AreLeased-all mix script.config left.table script.auto script.commands.items left.passes.items left.own.items
     c.in_ok-left.ensures in
     record {
       endings = all.endings;

@@ -1,33 +1,17 @@
-use Rattle.std.proofs.Common.{◌≡◌, [], length, get_or, vec_len, ap, subst, arith}
-use Rattle.std.proofs.lemmas.List.FromFn.{length-enumerate_from}
-use Rattle.rht_registry.specs.Outcomes.{HasServedWorker, HaveServed}
-use Rattle.rht_registry.proofs.ClosedOutcomes.{each-served}
+use Rattle.std.proofs.Common.{[], get_or, subst}
+use Rattle.rht_registry.specs.Outcomes.{HasServedWorker}
 use Rattle.rht_registry.proofs.registry.run_workers.Goals as goal
 
 pub returns : goal.returns
 returns g c =
     let script = c.args.script.now in
-    let table = c.in_ok-table.table in
-    let opened = c.in_ok-table.passes in
-    let jobs = c.in_ok-jobs.jobs in
-    let passes = c.in_ok-passes.passes in
-    let replies = c.in_ok-passes.replies in
-    let callers = script.config.callers in
-    let many : vec_len jobs ≡ callers =
-    omega (arith, jobs.ok.0, opened.ok.0, ap length c.in_ok-jobs.ensures, length-enumerate_from 0 opened.items, c.in_ok-table.ensures.count) in
-    let length_passes : length passes.items ≡ callers =
-    omega (arith, many, passes.ok.0, c.in_ok-passes.ensures.passes, c.in_ok-left.ensures.len) in
-    let length_replies : length replies.items ≡ callers =
-    omega (arith, many, replies.ok.0, c.in_ok-passes.ensures.replies, c.in_ok-left.ensures.len) in
+    let left = c.in_ok-left.left in
+    let all = c.in_ok-left.ensures in
     record {
-      config_same = c.in_ok-table.ensures.config;
-      many = length_passes;
-      workers = length_replies;
+      config_same = all.config_same;
+      many = all.many;
+      workers = all.workers;
       each = λ i default below.
-          subst (λ mix. HasServedWorker mix table script.auto script.commands.items i (get_or passes.items i default)
-          (get_or replies.items i [])) c.requires.mix
-          (each-served g.M.Mix.mix_of table script.auto script.commands.items c.in_ok-left.left.items passes.items replies.items callers
-          (subst (λ count. HaveServed g.M.Mix.mix_of table script.auto script.commands.items count c.in_ok-left.left.items) many
-          c.in_ok-left.ensures.served)
-          c.in_ok-passes.ensures.all length_passes length_replies i default below);
+          subst (λ mix. HasServedWorker mix left.table script.auto script.commands.items i (get_or left.passes.items i default)
+          (get_or left.own.items i [])) c.requires.mix (all.each i default [] below);
     }

@@ -10,7 +10,7 @@ close-requires-clause-passes g c pass among =
     let mix = g.M.Mix.mix_of in
     let script = c.args.script.now in
     let left = c.in_ok-left.left in
-    let all = AreServed-all mix script.config left.table script.auto script.commands.items left.passes.items left.replies.items
+    let all = AreServed-all mix script.config left.table script.auto script.commands.items left.passes.items left.own.items
     c.in_ok-left.ensures in
     HaveServedAll-passes mix script.config left.table script.auto (all_calls script.commands.items all.endings) left.passes.items
     all.endings all.served pass among
@@ -20,7 +20,7 @@ returns-in-Ok g c =
     let mix = g.M.Mix.mix_of in
     let script = c.args.script.now in
     let left = c.in_ok-left.left in
-    let all = AreServed-all mix script.config left.table script.auto script.commands.items left.passes.items left.replies.items
+    let all = AreServed-all mix script.config left.table script.auto script.commands.items left.passes.items left.own.items
     c.in_ok-left.ensures in
     let calls = all_calls script.commands.items all.endings in
     record {
