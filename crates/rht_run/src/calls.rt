@@ -9,7 +9,7 @@ ghost use Rattle.rht_core.specs.Replies.{IsFindReply, IsBindReply, IsReleaseRepl
 ghost use Rattle.rht_grace.specs.TidyLaws.{tidy_bound};
 ghost use Rattle.rht_run.specs.declared.pass.Pass.{Pass as PassOf};
 ghost use Rattle.rht_run.specs.Rule.{MayBegin};
-ghost use Rattle.rht_run.specs.Passes.{IsPassOf, IsCalling, HasCalled, Turned, HasGone, EndsWithin};
+ghost use Rattle.rht_run.specs.Passes.{IsPassOf, IsCalling, IsSamePass, HasCalled, Turned, HasGone, EndsWithin};
 ghost use Rattle.rht_run.specs.Caused.{IsCaused, HasLookedUp};
 
 use crate::finding::looked_up;
@@ -24,8 +24,9 @@ use std::marker::Brand;
 use std::sync::Wait;
 
 impl<M: Mix> Table<M> {
-    /// The first operation of a call.
-    pub(crate) fn start(&self, pass: &mut Pass<M>, call: Call) -> Option<Reply>
+    /// The first operation of a call. A reply ends the call, as that of a count always does. Without one
+    /// the pass is in the call, and goes on by `step`. It waits for nobody, and takes no memory.
+    pub fn start(&self, pass: &mut Pass<M>, call: Call) -> Option<Reply>
         requires pass { IsPassOf M.mix_of self.now pass.old }
         requires may { MayBegin self.now.env pass.old.number call pass.old.local }
         ensures turned { Turned M.mix_of self.now call 1 pass.old result pass.new }
@@ -34,10 +35,14 @@ impl<M: Mix> Table<M> {
         self.go::<Brand>(pass, Some(call))
     }
 
-    /// The next operation of the call in progress.
-    fn step(&self, pass: &mut Pass<M>) -> Option<Reply>
+    /// The next operation of the call in progress. A reply ends the call; without one the pass is in it
+    /// still. It waits for nobody: where the call waits for another caller, the operation is one look
+    /// whether that one has gone on. It takes no memory.
+    pub fn step(&self, pass: &mut Pass<M>) -> Option<Reply>
         requires pass { IsPassOf M.mix_of self.now pass.old }
         requires busy { is_idle pass.old.local ≡ false }
+        ensures pass { IsPassOf M.mix_of self.now pass.new }
+        ensures same { IsSamePass pass.old pass.new }
         ensures turned { (call : CallOf) (steps : ℕ) (before : PassOf M) → IsCalling M.mix_of self.now call steps before pass.old
             → Turned M.mix_of self.now call (steps + 1) before result pass.new }
         ensures gone { HasGone M.mix_of self.now None pass.old result pass.new }

@@ -22,6 +22,13 @@ pub struct Pass<M: Mix> {
 }
 
 impl<M: Mix> Pass<M> {
+    /// Whether the pass is in no call.
+    pub fn is_idle(&self) -> bool
+        ensures { result ≡ is_idle self.now.local }
+    {
+        self.local.is_idle()
+    }
+
     /// The owners that came with the pass's last finished call, where that answered `Listed`, in the
     /// order of the port's list; otherwise none.
     pub fn owners(&self) -> &[u32]

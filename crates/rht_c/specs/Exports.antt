@@ -1,0 +1,70 @@
+-- What exports do: what the calls on handles do, and C is told how each ended.
+use Rattle.std.specs.Prelude.{◌≡◌, ℕ, Option, Result, MatchResult, IfOk, IfErr, List}
+use Rattle.std.specs.List.{AllByRecursion}
+use Rattle.rht_model.specs.declared.history.Call.{Call}
+use Rattle.rht_model.specs.declared.history.Call.TheVariants.{Find}
+use Rattle.rht_model.specs.declared.history.Reply.{Reply}
+use Rattle.rht_session.specs.declared.session.Session.{Session}
+use Rattle.rht_session.specs.declared.handle.Handle.{Handle}
+use Rattle.rht_session.specs.declared.refused.Refused.{Refused}
+use Rattle.rht_session.specs.declared.refused.NotOpened.{NotOpened}
+use Rattle.rht_session.specs.declared.plain.CConfig.{CConfig}
+use Rattle.rht_session.specs.declared.plain.CReply.{CReply}
+use Rattle.rht_session.specs.Plain.{config_said, c_config}
+use Rattle.rht_session.specs.Sessions.{Ends, LooksUp, Begins}
+use Rattle.rht_session.specs.Handles.{IsBlank, HadFree, IsFitHandle, IsNotFree, IsAnswered, IsGoneOn, Shows, AreToOpen, AreOpenedHandles, IsWhyNotOpened}
+use Rattle.rht_session.specs.Told.{opening_code, closing_code, IsTold, IsToldWhole, IsToldFound}
+
+-- a table was opened with the rounded config, which is written, or that was refused
+pub record HasOpened (config_before : CConfig) (before : List Handle) (code : ℕ) (config_after : CConfig) (after : List Handle)
+    : Type 0 where
+  pub answer : Result (Unit {0}) NotOpened
+  pub told : code ≡ opening_code answer
+  pub opened : IfOk answer (λ _. AreOpenedHandles (config_said config_before) after)
+  pub fit : IfOk answer (λ _. AllByRecursion IsFitHandle after)
+  pub due : IfOk answer (λ _. AreToOpen (config_said config_before) before)
+  pub written : IfOk answer (λ _. config_after ≡ c_config (config_said config_before))
+  pub why : IfErr answer (IsWhyNotOpened (config_said config_before) before)
+  pub same : IfErr answer (λ _. (config_after ≡ config_before) × (after ≡ before))
+
+-- a handle was closed, or that was refused
+pub record HasClosed (before : Handle) (code : ℕ) (after : Handle) : Type 0 where
+  pub answer : Result (Unit {0}) Refused
+  pub told : code ≡ closing_code answer
+  pub closed : IfOk answer (λ _. IsBlank after × HadFree before)
+  pub refused : IfErr answer (λ refused. IsNotFree refused before after)
+
+-- a port was looked up, or that was refused
+pub record HasFound (port : ℕ) (before : Handle) (owner_before code owner_after : ℕ) (after : Handle) : Type 0 where
+  pub answer : Result Reply Refused
+  pub told : IsToldFound answer code owner_before owner_after
+  pub made : IsAnswered (λ reply old new. Ends (Find port) reply old new × LooksUp port reply old new) before answer after
+
+-- a call was made as a whole, or that was refused
+pub record HasMade (call : Call) (before : Handle) (reply_before : CReply) (code : ℕ) (reply_after : CReply) (after : Handle)
+    : Type 0 where
+  pub answer : Result Reply Refused
+  pub told : IsToldWhole answer code reply_before reply_after
+  pub made : IsAnswered (Ends call) before answer after
+
+-- a call was begun, or that was refused
+pub record HasBegun (call : Call) (before : Handle) (reply_before : CReply) (code : ℕ) (reply_after : CReply) (after : Handle)
+    : Type 0 where
+  pub answer : Result (Option Reply) Refused
+  pub told : IsTold answer code reply_before reply_after
+  pub made : IsAnswered (Begins call) before answer after
+
+-- the call in progress was gone on with by so many operations at most, or that was refused
+pub record HasGoneOn (most : ℕ) (before : Handle) (reply_before : CReply) (code : ℕ) (reply_after : CReply) (after : Handle)
+    : Type 0 where
+  pub answer : Result (Option Reply) Refused
+  pub told : IsTold answer code reply_before reply_after
+  pub made : IsGoneOn most before answer after
+
+-- so many of a list were written into a room; none where that was refused
+pub record HasShown {A : Type 0} (list : Session → List A) (skip : ℕ) (before : Handle) (room_before : List A) (count : ℕ)
+    (room_after : List A) (after : Handle)
+    : Type 0 where
+  pub answer : Result ℕ Refused
+  pub told : MatchResult answer (λ written. count ≡ written) (λ _. (count ≡ 0) × (room_after ≡ room_before))
+  pub made : IsAnswered (Shows list skip room_before room_after) before answer after

@@ -1,0 +1,2 @@
+-- what exports do
+pub mod Exports

@@ -1,0 +1,45 @@
+//! Opening and closing.
+
+ghost use Rattle.std.specs.Prelude.{◌≡◌};
+ghost use Rattle.rht_words.specs.Settled.{plain_config};
+ghost use Rattle.rht_session.specs.Plain.{c_config};
+ghost use Rattle.rht_session.specs.Handles.{IsFitHandle};
+ghost use Rattle.rht_c.specs.Exports.{HasOpened, HasClosed};
+
+use rht_session::{CConfig, Handle, told_closing, told_opening};
+use rht_words::Config;
+use std::alloc::Global;
+
+/// Fills a config, as `Config::plain`.
+#[unsafe(no_mangle)]
+pub extern "C" fn rht_config_init(config: &mut CConfig)
+    ensures { config.new ≡ c_config plain_config }
+{
+    *config = CConfig::of(Config::plain());
+}
+
+/// Opens a table, as `Handle::open`, with the config rounded as `CConfig::config` does. Where it is opened the
+/// config says with what.
+#[unsafe(no_mangle)]
+pub extern "C" fn rht_open(alloc: Global, config: &mut CConfig, handles: &mut [Handle]) -> u32
+    ensures { HasOpened config.old handles.old result config.new handles.new }
+{
+    let rounded = config.config();
+    match Handle::open(alloc, rounded, handles) {
+        Ok(()) => {
+            *config = CConfig::of(rounded);
+            told_opening(Ok(()))
+        }
+        Err(why) => told_opening(Err(why)),
+    }
+}
+
+/// Closes a handle, as `Handle::close`.
+#[unsafe(no_mangle)]
+pub extern "C" fn rht_close(alloc: Global, handle: &mut Handle) -> u32
+    requires { IsFitHandle handle.old }
+    ensures fit { IsFitHandle handle.new }
+    ensures closed { HasClosed handle.old result handle.new }
+{
+    told_closing(handle.close(alloc))
+}

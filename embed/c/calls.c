@@ -1,0 +1,619 @@
+/* Each function on its way, and each reply that one thread can bring about: in single and listed tables, by
+ * either hash. A thread with two handles is in a call of one of them while it calls by the other. */
+#include "check.h"
+
+#define MANY 200
+
+static void plain(struct test *t)
+{
+    const rht_config wanted = RHT_CONFIG_INIT;
+    t->config = (rht_config){.nodes = 1, .pages = 2, .callers = 3, .hint = 4, .min = 5, .max = 6, .seed = 7,
+                             .rewalks = 9, .listed = true, .low = true, .shrink = true};
+    rht_config_init(&t->config);
+    CHECK(t, wanted.nodes == 4096 && wanted.pages == 256 && wanted.callers == 1);
+    CHECK(t, are_same_configs(&t->config, &wanted));
+    open_table(t, 1);
+    CHECK(t, are_same_configs(&t->config, &wanted));
+    close_table(t);
+}
+
+static void finds(struct test *t)
+{
+    rht_handle *h = t->handles;
+    open_table(t, 1);
+    t->owner = 77;
+    ANSWERS(t, rht_find(h, port(80), &t->owner), RHT_MISSING);
+    CHECK(t, t->owner == 77);
+    REPLIES(t, rht_bind(h, port(80), 100, &t->reply), RHT_BOUND, NOTHING);
+    ANSWERS(t, rht_find(h, port(80), &t->owner), RHT_FOUND);
+    CHECK(t, t->owner == 100);
+    ANSWERS(t, rht_find(h, in_net(3, 80), &t->owner), RHT_MISSING);
+    REPLIES(t, rht_bind(h, in_net(3, 80), 200, &t->reply), RHT_BOUND, NOTHING);
+    ANSWERS(t, rht_find(h, in_net(3, 80), &t->owner), RHT_FOUND);
+    CHECK(t, t->owner == 200);
+    ANSWERS(t, rht_find(h, port(80), &t->owner), RHT_FOUND);
+    CHECK(t, t->owner == 100);
+    close_table(t);
+}
+
+/* the least and the greatest numbers of ports and owners */
+static void ends_of_ranges(struct test *t)
+{
+    const rht_port ports[] = {{0, 0}, {UINT32_MAX, 0}, {0, UINT16_MAX}, {UINT32_MAX, UINT16_MAX}};
+    const uint32_t owners[] = {0, UINT32_MAX, 1, UINT32_MAX - 1};
+    size_t i;
+    open_table(t, 1);
+    for (i = 0; i < 4; i++)
+        REPLIES(t, rht_bind(t->handles, ports[i], owners[i], &t->reply), RHT_BOUND, NOTHING);
+    for (i = 0; i < 4; i++) {
+        t->owner = 77;
+        ANSWERS(t, rht_find(t->handles, ports[i], &t->owner), RHT_FOUND);
+        CHECK(t, t->owner == owners[i]);
+    }
+    for (i = 0; i < 4; i++)
+        REPLIES(t, rht_release(t->handles, ports[i], owners[i], &t->reply), RHT_RELEASED, NOTHING);
+    REPLIES(t, rht_count(t->handles, &t->reply), RHT_COUNTED, {.count = 0});
+    close_table(t);
+}
+
+static void second_owner(struct test *t)
+{
+    rht_handle *h = t->handles;
+    open_table(t, 1);
+    REPLIES(t, rht_bind(h, port(80), 100, &t->reply), RHT_BOUND, NOTHING);
+    if (t->config.listed) {
+        REPLIES(t, rht_bind(h, port(80), 7, &t->reply), RHT_BOUND, NOTHING);
+        REPLIES(t, rht_bind_once(h, port(80), 7, &t->reply), RHT_BOUND, NOTHING);
+    } else {
+        REPLIES(t, rht_bind(h, port(80), 7, &t->reply), RHT_EXISTS, {.owner = 100});
+        REPLIES(t, rht_bind(h, port(80), 100, &t->reply), RHT_EXISTS, {.owner = 100});
+        REPLIES(t, rht_bind_once(h, port(80), 7, &t->reply), RHT_EXISTS, {.owner = 100});
+    }
+    ANSWERS(t, rht_find(h, port(80), &t->owner), RHT_FOUND);
+    CHECK(t, t->owner == (t->config.listed ? 7 : 100));
+    REPLIES(t, rht_count(h, &t->reply), RHT_COUNTED, {.count = 1});
+    close_table(t);
+}
+
+/* has_owners: whether the port has just these owners, in this order */
+static void has_owners(struct test *t, rht_port of, const uint32_t *owners, uint32_t len)
+{
+    uint32_t found[16] = {0};
+    REPLIES(t, rht_all(t->handles, of, &t->reply), RHT_LISTED, {.len = len});
+    CHECK(t, rht_owners(t->handles, 0, found, 16) == len);
+    CHECK(t, memcmp(found, owners, len * sizeof *owners) == 0);
+}
+
+static void listed(struct test *t)
+{
+    const uint32_t three[] = {9, 8, 7}, one[] = {7};
+    uint32_t into[4] = {0, 0, 0, 0};
+    open_table(t, 1);
+    has_owners(t, port(80), one, 0);
+    REPLIES(t, rht_bind(t->handles, port(80), 7, &t->reply), RHT_BOUND, NOTHING);
+    has_owners(t, port(80), one, 1);
+    if (t->config.listed) {
+        bind_ports(t, 1, 3);
+        REPLIES(t, rht_bind(t->handles, port(80), 8, &t->reply), RHT_BOUND, NOTHING);
+        REPLIES(t, rht_bind(t->handles, port(80), 9, &t->reply), RHT_BOUND, NOTHING);
+        has_owners(t, port(80), three, 3);
+        CHECK(t, rht_owners(t->handles, 0, into, 2) == 2 && into[0] == 9 && into[1] == 8 && into[2] == 0);
+        CHECK(t, rht_owners(t->handles, 2, into, 2) == 1 && into[0] == 7 && into[1] == 8);
+        CHECK(t, rht_owners(t->handles, 1, into, 4) == 2 && into[0] == 8 && into[1] == 7 && into[2] == 0);
+    }
+    CHECK(t, rht_owners(t->handles, t->config.listed ? 3 : 1, into, 4) == 0);
+    CHECK(t, rht_owners(t->handles, SIZE_MAX, into, 4) == 0);
+    CHECK(t, rht_owners(t->handles, 0, into, 0) == 0);
+    close_table(t);
+}
+
+/* What came with a call goes with the next one. */
+static void lists_go(struct test *t)
+{
+    const uint32_t seven[] = {7};
+    const rht_cursor start = {0, 0, false};
+    rht_pair pair = {0};
+    open_table(t, 1);
+    REPLIES(t, rht_bind(t->handles, port(80), 7, &t->reply), RHT_BOUND, NOTHING);
+    has_owners(t, port(80), seven, 1);
+    CHECK(t, rht_pairs(t->handles, 0, &pair, 1) == 0);
+    ANSWERS(t, rht_find(t->handles, port(80), &t->owner), RHT_FOUND);
+    CHECK(t, rht_owners(t->handles, 0, &t->owner, 1) == 0);
+    has_owners(t, port(80), seven, 1);
+    REPLIES(t, rht_walk(t->handles, start, 10, &t->reply), RHT_WALKED, {.len = 1});
+    CHECK(t, rht_owners(t->handles, 0, &t->owner, 1) == 0);
+    CHECK(t, rht_pairs(t->handles, 0, &pair, 1) == 1 && pair.port.number == 80 && pair.owner == 7);
+    REPLIES(t, rht_count(t->handles, &t->reply), RHT_COUNTED, {.count = 1});
+    CHECK(t, rht_pairs(t->handles, 0, &pair, 1) == 0);
+    close_table(t);
+}
+
+static void releases(struct test *t)
+{
+    const uint32_t left[] = {9, 8, 7};
+    rht_handle *h = t->handles;
+    open_table(t, 1);
+    REPLIES(t, rht_release(h, port(80), 7, &t->reply), RHT_ABSENT, NOTHING);
+    REPLIES(t, rht_bind(h, port(80), 7, &t->reply), RHT_BOUND, NOTHING);
+    REPLIES(t, rht_release(h, port(80), 8, &t->reply), RHT_ABSENT, NOTHING);
+    REPLIES(t, rht_release(h, in_net(1, 80), 7, &t->reply), RHT_ABSENT, NOTHING);
+    if (t->config.listed) {
+        REPLIES(t, rht_bind(h, port(80), 8, &t->reply), RHT_BOUND, NOTHING);
+        REPLIES(t, rht_bind(h, port(80), 7, &t->reply), RHT_BOUND, NOTHING);
+        REPLIES(t, rht_bind(h, port(80), 9, &t->reply), RHT_BOUND, NOTHING);
+        REPLIES(t, rht_release(h, port(80), 7, &t->reply), RHT_RELEASED, NOTHING);
+        has_owners(t, port(80), left, 3);
+        REPLIES(t, rht_release(h, port(80), 9, &t->reply), RHT_RELEASED, NOTHING);
+        REPLIES(t, rht_release(h, port(80), 8, &t->reply), RHT_RELEASED, NOTHING);
+    }
+    REPLIES(t, rht_count(h, &t->reply), RHT_COUNTED, {.count = 1});
+    REPLIES(t, rht_release(h, port(80), 7, &t->reply), RHT_RELEASED, NOTHING);
+    REPLIES(t, rht_release(h, port(80), 7, &t->reply), RHT_ABSENT, NOTHING);
+    ANSWERS(t, rht_find(h, port(80), &t->owner), RHT_MISSING);
+    REPLIES(t, rht_count(h, &t->reply), RHT_COUNTED, {.count = 0});
+    close_table(t);
+}
+
+static void rebinds(struct test *t)
+{
+    const uint32_t first[] = {3, 9, 1}, second[] = {8, 9, 1};
+    rht_handle *h = t->handles;
+    open_table(t, 1);
+    REPLIES(t, rht_rebind(h, port(80), 1, 2, &t->reply), RHT_ABSENT, NOTHING);
+    REPLIES(t, rht_bind(h, port(80), 1, &t->reply), RHT_BOUND, NOTHING);
+    REPLIES(t, rht_rebind(h, port(80), 2, 3, &t->reply), RHT_ABSENT, NOTHING);
+    if (t->config.listed) {
+        REPLIES(t, rht_bind(h, port(80), 2, &t->reply), RHT_BOUND, NOTHING);
+        REPLIES(t, rht_bind(h, port(80), 3, &t->reply), RHT_BOUND, NOTHING);
+        REPLIES(t, rht_rebind(h, port(80), 2, 9, &t->reply), RHT_REBOUND, NOTHING);
+        has_owners(t, port(80), first, 3);
+        REPLIES(t, rht_rebind(h, port(80), 3, 8, &t->reply), RHT_REBOUND, NOTHING);
+        REPLIES(t, rht_rebind(h, port(80), 1, 1, &t->reply), RHT_REBOUND, NOTHING);
+        has_owners(t, port(80), second, 3);
+    } else {
+        REPLIES(t, rht_rebind(h, port(80), 1, 7, &t->reply), RHT_REBOUND, NOTHING);
+        REPLIES(t, rht_rebind(h, port(80), 1, 9, &t->reply), RHT_ABSENT, NOTHING);
+        ANSWERS(t, rht_find(h, port(80), &t->owner), RHT_FOUND);
+        CHECK(t, t->owner == 7);
+    }
+    close_table(t);
+}
+
+/* No node is free, until what was taken out is tidied. */
+static void tidies(struct test *t)
+{
+    rht_handle *h = t->handles;
+    t->config.nodes = 2;
+    open_table(t, 1);
+    REPLIES(t, rht_tidy(h, &t->reply), RHT_CLEAR, {.returned = 0});
+    bind_ports(t, 1, 2);
+    REPLIES(t, rht_bind(h, port(3), 3, &t->reply), RHT_NO_NODE, NOTHING);
+    REPLIES(t, rht_bind(h, port(1), 3, &t->reply), RHT_NO_NODE, NOTHING);
+    REPLIES(t, rht_bind_once(h, port(3), 3, &t->reply), RHT_NO_NODE, NOTHING);
+    REPLIES(t, rht_rebind(h, port(1), 1001, 3, &t->reply), RHT_NO_NODE, NOTHING);
+    REPLIES(t, rht_release(h, port(1), 1001, &t->reply), RHT_RELEASED, NOTHING);
+    REPLIES(t, rht_bind(h, port(3), 3, &t->reply), RHT_NO_NODE, NOTHING);
+    REPLIES(t, rht_tidy(h, &t->reply), RHT_CLEAR, {.returned = 1});
+    REPLIES(t, rht_tidy(h, &t->reply), RHT_CLEAR, {.returned = 0});
+    REPLIES(t, rht_rebind(h, port(2), 1002, 5, &t->reply), RHT_REBOUND, NOTHING);
+    REPLIES(t, rht_bind(h, port(3), 3, &t->reply), RHT_NO_NODE, NOTHING);
+    REPLIES(t, rht_tidy(h, &t->reply), RHT_CLEAR, {.returned = 1});
+    REPLIES(t, rht_bind(h, port(3), 3, &t->reply), RHT_BOUND, NOTHING);
+    ANSWERS(t, rht_find(h, port(3), &t->owner), RHT_FOUND);
+    close_table(t);
+}
+
+/* Walks from the first bucket to the table's end by pieces of this limit, and counts how often each port was
+ * seen. Pairs are fetched by two at a time. */
+static void walk_all(struct test *t, uint32_t limit, unsigned *seen)
+{
+    rht_cursor at = {0, 0, false};
+    rht_pair two[2] = {0};
+    size_t from, len, i;
+    memset(seen, 0, MANY * sizeof *seen);
+    do {
+        ANSWERS(t, rht_walk(t->handles, at, limit, &t->reply), RHT_WALKED);
+        at = t->reply.next;
+        CHECK(t, at.more || (at.serial == 0 && at.bucket == 0));
+        CHECK(t, !at.more || t->reply.len >= limit);
+        for (from = 0, len = 1; from < t->reply.len && len > 0; from += len) {
+            len = rht_pairs(t->handles, from, two, 2);
+            CHECK(t, len == (t->reply.len - from < 2 ? 1 : 2));
+            for (i = 0; i < len; i++)
+                if (two[i].port.net == 0 && two[i].port.number < MANY && two[i].owner == two[i].port.number + 1000)
+                    seen[two[i].port.number]++;
+        }
+    } while (at.more && t->failed == 0);
+}
+
+/* all_seen: whether just the ports from first to last are, and each once */
+static bool all_seen(const unsigned *seen, uint32_t first, uint32_t last)
+{
+    uint32_t i;
+    for (i = 0; i < MANY; i++)
+        if (seen[i] != (first <= i && i <= last ? 1U : 0U))
+            return false;
+    return true;
+}
+
+static void walks(struct test *t)
+{
+    unsigned seen[MANY];
+    uint32_t limit;
+    rht_pair pair = {0};
+    open_table(t, 1);
+    walk_all(t, 1, seen);
+    CHECK(t, all_seen(seen, 1, 0));
+    bind_ports(t, 1, 40);
+    for (limit = 0; limit < 50; limit += 7) {
+        walk_all(t, limit, seen);
+        CHECK(t, all_seen(seen, 1, 40));
+    }
+    walk_all(t, UINT32_MAX, seen);
+    CHECK(t, all_seen(seen, 1, 40) && t->reply.len == 40);
+    CHECK(t, rht_pairs(t->handles, 39, &pair, 1) == 1);
+    CHECK(t, rht_pairs(t->handles, 40, &pair, 1) == 0);
+    CHECK(t, rht_pairs(t->handles, (size_t)UINT32_MAX + 1, &pair, 1) == 0);
+    CHECK(t, rht_pairs(t->handles, SIZE_MAX, &pair, 1) == 0);
+    CHECK(t, rht_pairs(t->handles, 0, &pair, 0) == 0);
+    close_table(t);
+}
+
+/* A port with several owners is seen once, with its first owner. */
+static void walks_lists(struct test *t)
+{
+    unsigned seen[MANY];
+    open_table(t, 1);
+    ANSWERS(t, rht_bind(t->handles, port(5), 1, &t->reply), RHT_BOUND);
+    if (t->config.listed)
+        bind_ports(t, 5, 5);
+    else
+        ANSWERS(t, rht_rebind(t->handles, port(5), 1, 1005, &t->reply), RHT_REBOUND);
+    walk_all(t, 1, seen);
+    CHECK(t, all_seen(seen, 5, 5));
+    close_table(t);
+}
+
+/* Pieces of a walk, by the hash that shows where a bucket ends. */
+static void walks_buckets(struct test *t)
+{
+    rht_cursor at = {0, 0, false};
+    rht_pair pairs[4] = {0};
+    if (!t->config.low)
+        return;
+    t->config.hint = 3;
+    open_table(t, 1);
+    bind_ports(t, 6, 6);
+    bind_ports(t, 1, 1);
+    bind_ports(t, 5, 5);
+    ANSWERS(t, rht_walk(t->handles, at, 1, &t->reply), RHT_WALKED);
+    CHECK(t, t->reply.len == 2 && t->reply.next.more && t->reply.next.bucket == 2);
+    CHECK(t, rht_pairs(t->handles, 0, pairs, 4) == 2 && pairs[0].port.number == 5 && pairs[1].port.number == 1);
+    CHECK(t, pairs[0].owner == 1005 && pairs[1].owner == 1001);
+    at = t->reply.next;
+    ANSWERS(t, rht_walk(t->handles, at, 2, &t->reply), RHT_WALKED);
+    CHECK(t, t->reply.len == 1 && !t->reply.next.more);
+    CHECK(t, rht_pairs(t->handles, 0, pairs, 4) == 1 && pairs[0].port.number == 6);
+    REPLIES(t, rht_walk(t->handles, at, 9, &t->reply), RHT_WALKED, {.len = 1});
+    at.bucket = 4;
+    REPLIES(t, rht_walk(t->handles, at, 9, &t->reply), RHT_AGAIN, {.table = 0});
+    at.more = false;
+    REPLIES(t, rht_walk(t->handles, at, 9, &t->reply), RHT_WALKED, {.len = 3});
+    close_table(t);
+}
+
+/* A bind kicks, and the work that it asks for moves the table. */
+static void grows(struct test *t)
+{
+    unsigned seen[MANY];
+    rht_cursor start = {0, 0, false}, at;
+    uint32_t i;
+    open_table(t, 1);
+    REPLIES(t, rht_work(t->handles, &t->reply), RHT_IDLE, NOTHING);
+    for (i = 0; i < 48; i++)
+        REPLIES(t, rht_bind(t->handles, port(i), i + 1000, &t->reply), RHT_BOUND, NOTHING);
+    REPLIES(t, rht_bind(t->handles, port(48), 1048, &t->reply), RHT_BOUND, {.kick = true});
+    ANSWERS(t, rht_walk(t->handles, start, 1, &t->reply), RHT_WALKED);
+    at = t->reply.next;
+    CHECK(t, at.more);
+    REPLIES(t, rht_work(t->handles, &t->reply), RHT_MOVED, {.again = false});
+    REPLIES(t, rht_work(t->handles, &t->reply), RHT_IDLE, NOTHING);
+    REPLIES(t, rht_walk(t->handles, at, 1, &t->reply), RHT_AGAIN, {.table = 1});
+    walk_all(t, 10, seen);
+    CHECK(t, all_seen(seen, 0, 48));
+    REPLIES(t, rht_count(t->handles, &t->reply), RHT_COUNTED, {.count = 49});
+    close_table(t);
+}
+
+/* Binds put a second and a third table behind the first one, and nobody works meanwhile. */
+static void grows_twice(struct test *t)
+{
+    unsigned seen[MANY];
+    rht_cursor start = {0, 0, false};
+    uint32_t i;
+    open_table(t, 1);
+    bind_ports(t, 0, 64);
+    REPLIES(t, rht_bind_once(t->handles, port(65), 1065, &t->reply), RHT_AGAIN, {.table = 1});
+    ANSWERS(t, rht_find(t->handles, port(65), &t->owner), RHT_MISSING);
+    bind_ports(t, 65, 129);
+    REPLIES(t, rht_walk(t->handles, start, MANY, &t->reply), RHT_AGAIN, {.table = 1});
+    REPLIES(t, rht_work(t->handles, &t->reply), RHT_MOVED, {.again = true});
+    REPLIES(t, rht_walk(t->handles, start, MANY, &t->reply), RHT_AGAIN, {.table = 2});
+    REPLIES(t, rht_work(t->handles, &t->reply), RHT_MOVED, {.again = false});
+    REPLIES(t, rht_work(t->handles, &t->reply), RHT_IDLE, NOTHING);
+    for (i = 0; i < 130; i++) {
+        ANSWERS(t, rht_find(t->handles, port(i), &t->owner), RHT_FOUND);
+        CHECK(t, t->owner == i + 1000);
+    }
+    walk_all(t, MANY, seen);
+    CHECK(t, all_seen(seen, 0, 129));
+    close_table(t);
+}
+
+static void shrinks(struct test *t)
+{
+    rht_handle *h = t->handles;
+    t->config.hint = 12;
+    t->config.shrink = true;
+    open_table(t, 1);
+    bind_ports(t, 0, 4);
+    REPLIES(t, rht_work(h, &t->reply), RHT_IDLE, NOTHING);
+    REPLIES(t, rht_release(h, port(0), 1000, &t->reply), RHT_RELEASED, NOTHING);
+    REPLIES(t, rht_work(h, &t->reply), RHT_IDLE, NOTHING);
+    REPLIES(t, rht_release(h, port(1), 1001, &t->reply), RHT_RELEASED, {.kick = true});
+    REPLIES(t, rht_work(h, &t->reply), RHT_MOVED, {.again = false});
+    REPLIES(t, rht_work(h, &t->reply), RHT_IDLE, NOTHING);
+    ANSWERS(t, rht_find(h, port(4), &t->owner), RHT_FOUND);
+    REPLIES(t, rht_count(h, &t->reply), RHT_COUNTED, {.count = 3});
+    close_table(t);
+}
+
+/* A table of at most four buckets holds eight ports. */
+static void fills(struct test *t)
+{
+    rht_handle *h = t->handles;
+    t->config.max = 4;
+    open_table(t, 1);
+    bind_ports(t, 0, 7);
+    REPLIES(t, rht_bind(h, port(8), 1, &t->reply), RHT_TOO_BIG, {.count = 8});
+    REPLIES(t, rht_bind_once(h, port(8), 1, &t->reply), RHT_TOO_BIG, {.count = 8});
+    REPLIES(t, rht_release(h, port(3), 1003, &t->reply), RHT_RELEASED, NOTHING);
+    REPLIES(t, rht_bind(h, port(8), 1, &t->reply), RHT_BOUND, NOTHING);
+    REPLIES(t, rht_bind(h, port(9), 1, &t->reply), RHT_TOO_BIG, {.count = 8});
+    if (t->config.listed)
+        REPLIES(t, rht_bind(h, port(8), 2, &t->reply), RHT_BOUND, NOTHING);
+    close_table(t);
+}
+
+/* All ports of one bucket, by the hash that allows it, and nobody works. */
+static void is_busy(struct test *t)
+{
+    uint32_t i;
+    if (!t->config.low)
+        return;
+    open_table(t, 1);
+    for (i = 0; i < 16; i++)
+        REPLIES(t, rht_bind(t->handles, port(64 * i), i, &t->reply), RHT_BOUND, NOTHING);
+    REPLIES(t, rht_bind(t->handles, port(64 * i), i, &t->reply), RHT_BOUND, {.kick = true});
+    for (i = 17; i < 32; i++)
+        ANSWERS(t, rht_bind(t->handles, port(64 * i), i, &t->reply), RHT_BOUND);
+    REPLIES(t, rht_bind(t->handles, port(64 * i), i, &t->reply), RHT_BUSY, {.table = 0, .last = 1});
+    REPLIES(t, rht_bind_once(t->handles, port(64 * i), i, &t->reply), RHT_BUSY, {.table = 0, .last = 1});
+    REPLIES(t, rht_work(t->handles, &t->reply), RHT_MOVED, {.again = false});
+    ANSWERS(t, rht_bind(t->handles, port(64 * i), i, &t->reply), RHT_BOUND);
+    REPLIES(t, rht_count(t->handles, &t->reply), RHT_COUNTED, {.count = 33});
+    close_table(t);
+}
+
+/* There is no row of four pages for 256 buckets, and then not a single page. */
+static void has_no_table(struct test *t)
+{
+    rht_handle *h = t->handles;
+    t->config.hint = 96;
+    t->config.pages = 4;
+    open_table(t, 1);
+    bind_ports(t, 0, 96);
+    CHECK(t, t->reply.kick);
+    REPLIES(t, rht_work(h, &t->reply), RHT_NO_TABLE, {.size = 256});
+    bind_ports(t, 97, 128);
+    if (t->config.low) {
+        bind_ports(t, 129, 129);
+        REPLIES(t, rht_bind(h, port(130), 1, &t->reply), RHT_NO_TABLE, {.size = 256});
+        bind_ports(t, 133, 133);
+        REPLIES(t, rht_work(h, &t->reply), RHT_NO_TABLE, {.size = 256});
+        REPLIES(t, rht_count(h, &t->reply), RHT_COUNTED, {.count = 131});
+    }
+    close_table(t);
+}
+
+/* Goes on by one operation at a time to the call's end, and counts the operations. */
+static uint32_t by_ones(struct test *t, uint32_t code, uint32_t *made)
+{
+    for (*made = 1; code == RHT_NOT_YET && *made < 1000000; ++*made)
+        code = rht_go_on(t->handles, 1, &t->reply);
+    return code;
+}
+
+static void goes_by_ones(struct test *t)
+{
+    rht_handle *h = t->handles;
+    uint32_t made;
+    open_table(t, 1);
+    REPLIES(t, by_ones(t, rht_bind_begin(h, port(80), 1, &t->reply), &made), RHT_BOUND, NOTHING);
+    CHECK(t, made > 1);
+    REPLIES(t, by_ones(t, rht_bind_once_begin(h, port(81), 2, &t->reply), &made), RHT_BOUND, NOTHING);
+    CHECK(t, made > 1);
+    REPLIES(t, by_ones(t, rht_rebind_begin(h, port(81), 2, 3, &t->reply), &made), RHT_REBOUND, NOTHING);
+    CHECK(t, made > 1);
+    REPLIES(t, by_ones(t, rht_all_begin(h, port(81), &t->reply), &made), RHT_LISTED, {.len = 1});
+    CHECK(t, made > 1 && rht_owners(h, 0, &t->owner, 1) == 1 && t->owner == 3);
+    REPLIES(t, by_ones(t, rht_release_begin(h, port(80), 1, &t->reply), &made), RHT_RELEASED, NOTHING);
+    CHECK(t, made > 1);
+    REPLIES(t, by_ones(t, rht_work_begin(h, &t->reply), &made), RHT_IDLE, NOTHING);
+    CHECK(t, made > 1);
+    REPLIES(t, rht_count(h, &t->reply), RHT_COUNTED, {.count = 1});
+    close_table(t);
+}
+
+/* Of two equal calls the one is gone on with by ones. So it is known how many operations the other has. */
+static void goes_so_far(struct test *t)
+{
+    rht_handle *h = t->handles;
+    uint32_t made;
+    open_table(t, 1);
+    ANSWERS(t, by_ones(t, rht_bind_begin(h, port(80), 1, &t->reply), &made), RHT_BOUND);
+    close_table(t);
+    open_table(t, 1);
+    REFUSED(t, rht_bind_begin(h, port(80), 1, &t->reply), RHT_NOT_YET);
+    if (made > 2)
+        REFUSED(t, rht_go_on(h, made - 2, &t->reply), RHT_NOT_YET);
+    REPLIES(t, rht_go_on(h, 1, &t->reply), RHT_BOUND, NOTHING);
+    close_table(t);
+    open_table(t, 1);
+    ANSWERS(t, rht_bind_begin(h, port(80), 1, &t->reply), RHT_NOT_YET);
+    REPLIES(t, rht_go_on(h, made - 1, &t->reply), RHT_BOUND, NOTHING);
+    ANSWERS(t, rht_find(h, port(80), &t->owner), RHT_FOUND);
+    REPLIES(t, rht_finish(h, rht_release_begin(h, port(80), 1, &t->reply), &t->reply), RHT_RELEASED, NOTHING);
+    ANSWERS(t, rht_bind_begin(h, port(80), 1, &t->reply), RHT_NOT_YET);
+    REPLIES(t, rht_go_on(h, UINT32_MAX, &t->reply), RHT_BOUND, NOTHING);
+    close_table(t);
+}
+
+/* The first handle is in a section while the second one tidies, at first without a node that waits. */
+static void is_pending(struct test *t)
+{
+    rht_handle *in = &t->handles[0], *h = &t->handles[1];
+    open_table(t, 2);
+    ANSWERS(t, rht_bind(h, port(80), 1, &t->reply), RHT_BOUND);
+    ANSWERS(t, rht_all_begin(in, port(80), &t->reply), RHT_NOT_YET);
+    ANSWERS(t, rht_tidy(h, &t->reply), RHT_PENDING);
+    ANSWERS(t, rht_release(h, port(80), 1, &t->reply), RHT_RELEASED);
+    ANSWERS(t, rht_tidy(h, &t->reply), RHT_PENDING);
+    CHECK(t, t->reply.caller == 0 && t->reply.section % 2 == 1);
+    t->reply.section = 0;
+    CHECK(t, are_equal(t->reply, (rht_reply)NOTHING));
+    ANSWERS(t, rht_tidy(h, &t->reply), RHT_PENDING);
+    ANSWERS(t, rht_go_on(in, 1000, &t->reply), RHT_LISTED);
+    REPLIES(t, rht_tidy(h, &t->reply), RHT_CLEAR, {.returned = 1});
+    close_table(t);
+}
+
+/* The first handle is at work while the second one is to work. */
+static void is_elsewhere(struct test *t)
+{
+    rht_handle *in = &t->handles[0], *h = &t->handles[1];
+    open_table(t, 2);
+    bind_ports(t, 0, 48);
+    ANSWERS(t, rht_work_begin(in, &t->reply), RHT_NOT_YET);
+    REPLIES(t, rht_work(h, &t->reply), RHT_ELSEWHERE, NOTHING);
+    ANSWERS(t, rht_find(h, port(48), &t->owner), RHT_FOUND);
+    REPLIES(t, rht_finish(in, RHT_NOT_YET, &t->reply), RHT_MOVED, {.again = false});
+    REPLIES(t, rht_work(h, &t->reply), RHT_IDLE, NOTHING);
+    close_table(t);
+}
+
+/* What is taken out while other nodes wait comes back by a further tidying. */
+static void tidies_twice(struct test *t)
+{
+    rht_handle *in = &t->handles[0], *h = &t->handles[1];
+    open_table(t, 2);
+    bind_ports(t, 1, 3);
+    ANSWERS(t, rht_release(h, port(1), 1001, &t->reply), RHT_RELEASED);
+    ANSWERS(t, rht_all_begin(in, port(80), &t->reply), RHT_NOT_YET);
+    ANSWERS(t, rht_tidy(h, &t->reply), RHT_PENDING);
+    ANSWERS(t, rht_release(h, port(2), 1002, &t->reply), RHT_RELEASED);
+    ANSWERS(t, rht_release(h, port(3), 1003, &t->reply), RHT_RELEASED);
+    ANSWERS(t, rht_finish(in, RHT_NOT_YET, &t->reply), RHT_LISTED);
+    REPLIES(t, rht_tidy(h, &t->reply), RHT_CLEAR, {.returned = 1});
+    REPLIES(t, rht_tidy(h, &t->reply), RHT_CLEAR, {.returned = 2});
+    REPLIES(t, rht_tidy(h, &t->reply), RHT_CLEAR, {.returned = 0});
+    close_table(t);
+}
+
+/* What one handle binds the others find. A handle that closes keeps the nodes that it hasn't tidied. */
+static void shares(struct test *t)
+{
+    rht_handle *first = &t->handles[0], *h = &t->handles[1];
+    t->config.nodes = 1;
+    open_table(t, 2);
+    ANSWERS(t, rht_bind(first, port(80), 1, &t->reply), RHT_BOUND);
+    ANSWERS(t, rht_find(h, port(80), &t->owner), RHT_FOUND);
+    CHECK(t, t->owner == 1);
+    ANSWERS(t, rht_release(h, port(80), 1, &t->reply), RHT_RELEASED);
+    REPLIES(t, rht_bind(first, port(81), 1, &t->reply), RHT_NO_NODE, NOTHING);
+    REPLIES(t, rht_tidy(first, &t->reply), RHT_CLEAR, {.returned = 0});
+    REPLIES(t, rht_tidy(h, &t->reply), RHT_CLEAR, {.returned = 1});
+    ANSWERS(t, rht_bind(first, port(81), 1, &t->reply), RHT_BOUND);
+    ANSWERS(t, rht_release(first, port(81), 1, &t->reply), RHT_RELEASED);
+    ANSWERS(t, rht_close(first), RHT_CLOSED);
+    REPLIES(t, rht_bind(h, port(82), 1, &t->reply), RHT_NO_NODE, NOTHING);
+    REPLIES(t, rht_tidy(h, &t->reply), RHT_CLEAR, {.returned = 0});
+    REPLIES(t, rht_bind(h, port(82), 1, &t->reply), RHT_NO_NODE, NOTHING);
+    close_table(t);
+}
+
+/* Handles are opened again behind their closing, also where all their bytes are 0. */
+static void opens_again(struct test *t)
+{
+    rht_handle zeroed[1], made[1] = {RHT_HANDLE_INIT};
+    open_table(t, 1);
+    bind_ports(t, 1, 1);
+    close_table(t);
+    t->config.listed = !t->config.listed;
+    open_table(t, 1);
+    ANSWERS(t, rht_find(t->handles, port(1), &t->owner), RHT_MISSING);
+    bind_ports(t, 1, 1);
+    memset(zeroed, 0, sizeof zeroed);
+    ANSWERS(t, rht_open(&t->config, zeroed, 1), RHT_OPENED);
+    ANSWERS(t, rht_open(&t->config, made, 1), RHT_OPENED);
+    ANSWERS(t, rht_find(zeroed, port(1), &t->owner), RHT_MISSING);
+    ANSWERS(t, rht_bind(made, port(1), 5, &t->reply), RHT_BOUND);
+    ANSWERS(t, rht_close(zeroed), RHT_CLOSED);
+    ANSWERS(t, rht_find(made, port(1), &t->owner), RHT_FOUND);
+    ANSWERS(t, rht_close(made), RHT_CLOSED);
+    close_table(t);
+}
+
+/* A handle may be moved while no call is in it. */
+static void moves(struct test *t)
+{
+    rht_handle there;
+    open_table(t, 1);
+    bind_ports(t, 1, 1);
+    memcpy(&there, t->handles, sizeof there);
+    memset(t->handles, 0, sizeof there);
+    ANSWERS(t, rht_find(&there, port(1), &t->owner), RHT_FOUND);
+    ANSWERS(t, rht_bind(&there, port(2), 2, &t->reply), RHT_BOUND);
+    ANSWERS(t, rht_find(t->handles, port(1), &t->owner), RHT_NOT_OPEN);
+    ANSWERS(t, rht_close(&there), RHT_CLOSED);
+}
+
+/* All sixteen handles of a table, each with a call of its own under way at the same time. */
+static void has_sixteen(struct test *t)
+{
+    rht_handle all[16];
+    uint32_t i;
+    memset(all, 0, sizeof all);
+    t->config.callers = 16;
+    ANSWERS(t, rht_open(&t->config, all, 16), RHT_OPENED);
+    for (i = 0; i < 16; i++)
+        ANSWERS(t, rht_bind_begin(&all[i], port(i), i, &t->reply), RHT_NOT_YET);
+    for (i = 16; i-- > 0;)
+        REPLIES(t, rht_finish(&all[i], RHT_NOT_YET, &t->reply), RHT_BOUND, NOTHING);
+    REPLIES(t, rht_count(&all[7], &t->reply), RHT_COUNTED, {.count = 16});
+    for (i = 0; i < 16; i++)
+        ANSWERS(t, rht_close(&all[i]), RHT_CLOSED);
+}
+
+static const struct named tests[] = {
+    {"plain", plain}, {"finds", finds}, {"ends_of_ranges", ends_of_ranges}, {"second_owner", second_owner},
+    {"listed", listed}, {"lists_go", lists_go}, {"releases", releases}, {"rebinds", rebinds},
+    {"tidies", tidies}, {"walks", walks}, {"walks_lists", walks_lists}, {"walks_buckets", walks_buckets},
+    {"grows", grows}, {"grows_twice", grows_twice}, {"shrinks", shrinks}, {"fills", fills},
+    {"is_busy", is_busy}, {"has_no_table", has_no_table}, {"goes_by_ones", goes_by_ones},
+    {"goes_so_far", goes_so_far}, {"is_pending", is_pending}, {"tidies_twice", tidies_twice},
+    {"is_elsewhere", is_elsewhere}, {"shares", shares}, {"opens_again", opens_again}, {"moves", moves},
+    {"has_sixteen", has_sixteen},
+};
+
+int main(void) { return run_all("calls", tests, sizeof tests / sizeof *tests); }

@@ -1,0 +1,168 @@
+/* Libraries that lie, which the tests have to find out. LIE is the number of a lie, and the linker puts it before the
+ * function of the library that it is about, by --wrap. Above each lie stand the function, the test that has to fail,
+ * and what is wrong then; `embed/check test` reads these lines. */
+#include <stdlib.h>
+
+#include "rht.h"
+
+#define WRAPPED(result, name, values)  \
+    result __real_##name values;       \
+    result __wrap_##name values;       \
+    result __wrap_##name values
+
+#if LIE == 1 /* rht_find calls: an owner is written where the port is missing */
+WRAPPED(uint32_t, rht_find, (rht_handle * handle, rht_port port, uint32_t *owner))
+{
+    const uint32_t code = __real_rht_find(handle, port, owner);
+    if (code == RHT_MISSING)
+        *owner = 0;
+    return code;
+}
+#elif LIE == 2 /* rht_find threads: a port that stays bound is missed now and then */
+WRAPPED(uint32_t, rht_find, (rht_handle * handle, rht_port port, uint32_t *owner))
+{
+    const uint32_t code = __real_rht_find(handle, port, owner);
+    return code == RHT_FOUND && *owner == 501 && rand() % 8 == 0 ? RHT_MISSING : code;
+}
+#elif LIE == 3 /* rht_go_on threads: several take the place of one owner */
+WRAPPED(uint32_t, rht_go_on, (rht_handle * handle, uint32_t steps, rht_reply *reply))
+{
+    const uint32_t code = __real_rht_go_on(handle, steps, reply);
+    return code == RHT_ABSENT ? RHT_REBOUND : code;
+}
+#elif LIE == 4 /* rht_go_on calls: an operation more is made than was asked */
+WRAPPED(uint32_t, rht_go_on, (rht_handle * handle, uint32_t steps, rht_reply *reply))
+{
+    return __real_rht_go_on(handle, steps == 0 || steps > 1000 ? steps : steps + 1, reply);
+}
+#elif LIE == 5 /* rht_go_on wrong: an operation is made where none was asked */
+WRAPPED(uint32_t, rht_go_on, (rht_handle * handle, uint32_t steps, rht_reply *reply))
+{
+    return __real_rht_go_on(handle, steps == 0 ? 1 : steps, reply);
+}
+#elif LIE == 6 /* rht_go_on calls: each bind kicks */
+WRAPPED(uint32_t, rht_go_on, (rht_handle * handle, uint32_t steps, rht_reply *reply))
+{
+    const uint32_t code = __real_rht_go_on(handle, steps, reply);
+    reply->kick = reply->kick || code == RHT_BOUND;
+    return code;
+}
+#elif LIE == 7 /* rht_bind_begin wrong: a bind in a call isn't refused */
+WRAPPED(uint32_t, rht_bind_begin, (rht_handle * handle, rht_port port, uint32_t owner, rht_reply *reply))
+{
+    const uint32_t code = __real_rht_bind_begin(handle, port, owner, reply);
+    return code == RHT_IN_CALL ? RHT_NOT_YET : code;
+}
+#elif LIE == 8 /* rht_work_begin wrong: a refused work writes a reply */
+WRAPPED(uint32_t, rht_work_begin, (rht_handle * handle, rht_reply *reply))
+{
+    const uint32_t code = __real_rht_work_begin(handle, reply);
+    if (code >= RHT_NOT_OPEN)
+        reply->again = false;
+    return code;
+}
+#elif LIE == 9 /* rht_close wrong: a blank handle is closed */
+WRAPPED(uint32_t, rht_close, (rht_handle * handle))
+{
+    const uint32_t code = __real_rht_close(handle);
+    return code == RHT_NOT_OPEN ? RHT_CLOSED : code;
+}
+#elif LIE == 10 /* rht_open wrong: sizes aren't told as they were rounded */
+WRAPPED(uint32_t, rht_open, (rht_config * config, rht_handle *handles, size_t count))
+{
+    const uint32_t max = config->max, code = __real_rht_open(config, handles, count);
+    config->max = max;
+    return code;
+}
+#elif LIE == 11 /* rht_open wrong: a handle is written where none is opened */
+WRAPPED(uint32_t, rht_open, (rht_config * config, rht_handle *handles, size_t count))
+{
+    const uint32_t code = __real_rht_open(config, handles, count);
+    if (code == RHT_BAD_COUNT)
+        handles[0].at = config;
+    return code;
+}
+#elif LIE == 12 /* rht_open memory: a block stays taken */
+WRAPPED(uint32_t, rht_open, (rht_config * config, rht_handle *handles, size_t count))
+{
+    static void *block;
+    const uint32_t code = __real_rht_open(config, handles, count);
+    if (block == NULL && code == RHT_NO_MEMORY)
+        block = malloc(8);
+    return code;
+}
+#elif LIE == 13 /* rht_tidy calls: more nodes came back than do */
+WRAPPED(uint32_t, rht_tidy, (rht_handle * handle, rht_reply *reply))
+{
+    const uint32_t code = __real_rht_tidy(handle, reply);
+    reply->returned += code == RHT_CLEAR;
+    return code;
+}
+#elif LIE == 14 /* rht_tidy calls: nothing is waited for */
+WRAPPED(uint32_t, rht_tidy, (rht_handle * handle, rht_reply *reply))
+{
+    const uint32_t code = __real_rht_tidy(handle, reply);
+    return code == RHT_PENDING ? RHT_CLEAR : code;
+}
+#elif LIE == 15 /* rht_count calls: a number comes that doesn't belong to the reply */
+WRAPPED(uint32_t, rht_count, (rht_handle * handle, rht_reply *reply))
+{
+    const uint32_t code = __real_rht_count(handle, reply);
+    reply->len = code == RHT_COUNTED ? 1 : reply->len;
+    return code;
+}
+#elif LIE == 16 /* rht_count threads: one more port is counted */
+WRAPPED(uint32_t, rht_count, (rht_handle * handle, rht_reply *reply))
+{
+    const uint32_t code = __real_rht_count(handle, reply);
+    reply->count += code == RHT_COUNTED;
+    return code;
+}
+#elif LIE == 17 /* rht_walk threads: a pair is lost */
+WRAPPED(uint32_t, rht_walk, (rht_handle * handle, rht_cursor from, uint32_t limit, rht_reply *reply))
+{
+    const uint32_t code = __real_rht_walk(handle, from, limit, reply);
+    reply->len -= code == RHT_WALKED && reply->len > 0;
+    return code;
+}
+#elif LIE == 18 /* rht_pairs calls: pairs aren't skipped */
+WRAPPED(size_t, rht_pairs, (rht_handle * handle, size_t skip, rht_pair *into, size_t room))
+{
+    return __real_rht_pairs(handle, skip == 2 ? 0 : skip, into, room);
+}
+#elif LIE == 19 /* rht_owners calls: the last owner comes first */
+WRAPPED(size_t, rht_owners, (rht_handle * handle, size_t skip, uint32_t *into, size_t room))
+{
+    const size_t len = __real_rht_owners(handle, skip, into, room);
+    const uint32_t first = len > 0 ? into[0] : 0;
+    if (len > 0) {
+        into[0] = into[len - 1];
+        into[len - 1] = first;
+    }
+    return len;
+}
+#elif LIE == 20 /* rht_config_init calls: a plain config has another number of nodes */
+WRAPPED(void, rht_config_init, (rht_config * config))
+{
+    __real_rht_config_init(config);
+    config->nodes--;
+}
+#elif LIE == 21 /* rht_open wrong: a config is rounded also where it opens no table */
+WRAPPED(uint32_t, rht_open, (rht_config * config, rht_handle *handles, size_t count))
+{
+    const uint32_t code = __real_rht_open(config, handles, count);
+    if (code == RHT_BAD_COUNT && config->min == 5)
+        config->min = 8;
+    return code;
+}
+#elif LIE == 22 /* rht_go_on calls: a call in progress writes a reply */
+WRAPPED(uint32_t, rht_go_on, (rht_handle * handle, uint32_t steps, rht_reply *reply))
+{
+    const uint32_t code = __real_rht_go_on(handle, steps, reply);
+    if (code == RHT_NOT_YET)
+        reply->len = 0;
+    return code;
+}
+#else
+#error "there is no such lie"
+#endif

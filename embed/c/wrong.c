@@ -1,0 +1,284 @@
+/* Wrong uses that have to be answered, and that leave handles and what calls write to as they were. What a
+ * program owes, as rht.h lists it, isn't tried here: nothing checks it. */
+#include "check.h"
+
+#define CALLS 11
+#define BEGINS 6
+
+/* makes the call of this number, of those that take a handle; first those that begin one */
+static uint32_t make(struct test *t, rht_handle *h, unsigned which)
+{
+    const rht_cursor start = {0, 0, false};
+    switch (which) {
+    case 0: return rht_bind_begin(h, port(81), 8, &t->reply);
+    case 1: return rht_bind_once_begin(h, port(81), 8, &t->reply);
+    case 2: return rht_release_begin(h, port(80), 7, &t->reply);
+    case 3: return rht_rebind_begin(h, port(80), 7, 9, &t->reply);
+    case 4: return rht_all_begin(h, port(80), &t->reply);
+    case 5: return rht_work_begin(h, &t->reply);
+    case 6: return rht_find(h, port(80), &t->owner);
+    case 7: return rht_walk(h, start, 10, &t->reply);
+    case 8: return rht_tidy(h, &t->reply);
+    case 9: return rht_count(h, &t->reply);
+    default: return rht_close(h);
+    }
+}
+
+/* what the begun call of this number comes to, where port 80 is bound to 7 and nothing is due */
+static const uint32_t ends[BEGINS] = {RHT_BOUND, RHT_BOUND, RHT_RELEASED, RHT_REBOUND, RHT_LISTED, RHT_IDLE};
+
+static bool is_same(const rht_handle *a, const rht_handle *b) { return a->at == b->at && a->in_use == b->in_use; }
+
+/* has_no_lists: neither owners nor pairs, and nothing is written */
+static void has_no_lists(struct test *t, rht_handle *h)
+{
+    uint32_t owner = 55;
+    rht_pair pair = {.port = {.number = 56}, .owner = 57};
+    CHECK(t, rht_owners(h, 0, &owner, 1) == 0 && owner == 55);
+    CHECK(t, rht_pairs(h, 0, &pair, 1) == 0 && pair.port.number == 56 && pair.owner == 57);
+}
+
+/* A blank handle, by its initialiser, by bytes of 0, and closed in place. */
+static void is_not_open(struct test *t)
+{
+    rht_handle blank[3] = {RHT_HANDLE_INIT}, before;
+    unsigned which, i;
+    memset(&blank[1], 0, sizeof *blank);
+    t->config.callers = 1;
+    ANSWERS(t, rht_open(&t->config, &blank[2], 1), RHT_OPENED);
+    ANSWERS(t, rht_bind(&blank[2], port(80), 7, &t->reply), RHT_BOUND);
+    ANSWERS(t, rht_close(&blank[2]), RHT_CLOSED);
+    for (i = 0; i < 3; i++) {
+        before = blank[i];
+        CHECK(t, !before.in_use);
+        for (which = 0; which < CALLS; which++)
+            REFUSED(t, make(t, &blank[i], which), RHT_NOT_OPEN);
+        REFUSED(t, rht_go_on(&blank[i], 1, &t->reply), RHT_NOT_OPEN);
+        REFUSED(t, rht_go_on(&blank[i], 0, &t->reply), RHT_NO_STEPS);
+        REFUSED(t, rht_bind(&blank[i], port(80), 7, &t->reply), RHT_NOT_OPEN);
+        has_no_lists(t, &blank[i]);
+        CHECK(t, is_same(&blank[i], &before));
+    }
+}
+
+/* A call is in progress, and each other one is refused; then it ends as if nothing had been asked. */
+static void is_in_call(struct test *t)
+{
+    unsigned begun, which;
+    rht_handle before;
+    for (begun = 0; begun < BEGINS; begun++) {
+        open_table(t, 1);
+        ANSWERS(t, rht_bind(t->handles, port(80), 7, &t->reply), RHT_BOUND);
+        REFUSED(t, make(t, t->handles, begun), RHT_NOT_YET);
+        before = *t->handles;
+        for (which = 0; which < CALLS; which++)
+            REFUSED(t, make(t, t->handles, which), RHT_IN_CALL);
+        REFUSED(t, rht_go_on(t->handles, 0, &t->reply), RHT_NO_STEPS);
+        has_no_lists(t, t->handles);
+        CHECK(t, is_same(t->handles, &before));
+        ANSWERS(t, rht_finish(t->handles, RHT_NOT_YET, &t->reply), ends[begun]);
+        CHECK(t, rht_owners(t->handles, 0, &t->owner, 1) == (ends[begun] == RHT_LISTED ? 1 : 0));
+        ANSWERS(t, rht_count(t->handles, &t->reply), RHT_COUNTED);
+        CHECK(t, t->reply.count == (begun < 2 ? 2 : begun == 2 ? 0 : 1));
+        close_table(t);
+    }
+}
+
+/* None is in progress. What came with the last call stays. */
+static void is_in_no_call(struct test *t)
+{
+    rht_handle *h = t->handles;
+    open_table(t, 1);
+    REFUSED(t, rht_go_on(h, 1, &t->reply), RHT_NO_CALL);
+    REFUSED(t, rht_go_on(h, 0, &t->reply), RHT_NO_STEPS);
+    ANSWERS(t, rht_bind(h, port(80), 7, &t->reply), RHT_BOUND);
+    REFUSED(t, rht_go_on(h, UINT32_MAX, &t->reply), RHT_NO_CALL);
+    ANSWERS(t, rht_all(h, port(80), &t->reply), RHT_LISTED);
+    REFUSED(t, rht_go_on(h, 1, &t->reply), RHT_NO_CALL);
+    CHECK(t, rht_owners(h, 0, &t->owner, 1) == 1 && t->owner == 7);
+    REFUSED(t, rht_finish(h, RHT_NOT_YET, &t->reply), RHT_NO_CALL);
+    close_table(t);
+}
+
+static void closes_twice(struct test *t)
+{
+    open_table(t, 2);
+    ANSWERS(t, rht_close(&t->handles[1]), RHT_CLOSED);
+    ANSWERS(t, rht_close(&t->handles[1]), RHT_NOT_OPEN);
+    ANSWERS(t, rht_bind(&t->handles[0], port(80), 7, &t->reply), RHT_BOUND);
+    ANSWERS(t, rht_close(&t->handles[0]), RHT_CLOSED);
+    ANSWERS(t, rht_close(&t->handles[0]), RHT_NOT_OPEN);
+    ANSWERS(t, rht_close(&t->handles[1]), RHT_NOT_OPEN);
+    ANSWERS(t, rht_find(&t->handles[0], port(80), &t->owner), RHT_NOT_OPEN);
+}
+
+/* Of several handles any one is open, also one of another table. */
+static void is_still_open(struct test *t)
+{
+    rht_handle before[3];
+    unsigned i, k;
+    t->config.callers = 3;
+    for (i = 0; i < 3; i++) {
+        rht_config one = t->config;
+        one.callers = 1;
+        ANSWERS(t, rht_open(&one, &t->handles[i], 1), RHT_OPENED);
+        ANSWERS(t, rht_bind(&t->handles[i], port(80), i, &t->reply), RHT_BOUND);
+        memcpy(before, t->handles, sizeof before);
+        ANSWERS(t, rht_open(&t->config, t->handles, 3), RHT_STILL_OPEN);
+        for (k = 0; k < 3; k++)
+            CHECK(t, is_same(&before[k], &t->handles[k]));
+        ANSWERS(t, rht_find(&t->handles[i], port(80), &t->owner), RHT_FOUND);
+        CHECK(t, t->owner == i);
+        ANSWERS(t, rht_close(&t->handles[i]), RHT_CLOSED);
+    }
+    open_table(t, 3);
+    ANSWERS(t, rht_open(&t->config, t->handles, 3), RHT_STILL_OPEN);
+    ANSWERS(t, rht_count(&t->handles[2], &t->reply), RHT_COUNTED);
+    close_table(t);
+}
+
+static void has_wrong_counts(struct test *t)
+{
+    rht_handle before[4];
+    uint32_t callers;
+    size_t count, i;
+    for (callers = 1; callers <= 3; callers++)
+        for (count = 0; count <= 4; count++) {
+            if (count == callers)
+                continue;
+            t->config.callers = callers;
+            memcpy(before, t->handles, sizeof before);
+            ANSWERS(t, rht_open(&t->config, t->handles, count), RHT_BAD_COUNT);
+            for (i = 0; i < 4; i++)
+                CHECK(t, is_same(&before[i], &t->handles[i]) && !before[i].in_use);
+        }
+}
+
+/* The first cause is answered: the config, then the count, then an open handle. */
+static void has_several_causes(struct test *t)
+{
+    open_table(t, 2);
+    t->config.nodes = 0;
+    ANSWERS(t, rht_open(&t->config, t->handles, 3), RHT_BAD_CONFIG);
+    t->config.nodes = 1;
+    t->config.min = 5;
+    ANSWERS(t, rht_open(&t->config, t->handles, 3), RHT_BAD_COUNT);
+    ANSWERS(t, rht_open(&t->config, t->handles, 2), RHT_STILL_OPEN);
+    CHECK(t, t->config.min == 5);
+    close_table(t);
+}
+
+enum field { NODES, PAGES, CALLERS, HINT, MIN, MAX, SEED, REWALKS };
+
+static uint32_t *field_of(rht_config *config, enum field field)
+{
+    switch (field) {
+    case NODES: return &config->nodes;
+    case PAGES: return &config->pages;
+    case CALLERS: return &config->callers;
+    case HINT: return &config->hint;
+    case MIN: return &config->min;
+    case MAX: return &config->max;
+    case SEED: return &config->seed;
+    default: return &config->rewalks;
+    }
+}
+
+/* A field has this value, and the rest is plain, but for pages that suffice for any table. */
+static void opens_with(struct test *t, enum field field, uint32_t value, uint32_t code)
+{
+    rht_handle all[17];
+    rht_config before;
+    uint32_t i;
+    memset(all, 0, sizeof all);
+    set_plain(t);
+    t->config.pages = 4096;
+    *field_of(&t->config, field) = value;
+    before = t->config;
+    ANSWERS(t, rht_open(&t->config, all, field == CALLERS && value < 17 ? value : 1), code);
+    if (code == RHT_OPENED) {
+        before.min = t->config.min;
+        before.max = t->config.max;
+    }
+    CHECK(t, are_same_configs(&t->config, &before));
+    CHECK(t, all[0].in_use == (code == RHT_OPENED) && !all[16].in_use);
+    if (code != RHT_OPENED)
+        return;
+    ANSWERS(t, rht_bind(all, port(80), 7, &t->reply), RHT_BOUND);
+    ANSWERS(t, rht_find(all, port(80), &t->owner), RHT_FOUND);
+    for (i = 0; i < t->config.callers; i++)
+        ANSWERS(t, rht_close(&all[i]), RHT_CLOSED);
+}
+
+/* The ends of each field's range, and what is just outside. */
+static void has_bad_configs(struct test *t)
+{
+    static const struct { enum field field; uint32_t good[2], bad[2]; } ranges[] = {
+        {NODES, {1, 65536}, {0, 65537}}, {PAGES, {4, 4096}, {3, 4097}}, {CALLERS, {1, 16}, {0, 17}},
+        {HINT, {1, 65536}, {65537, 1U << 30}}, {MIN, {1, 65536}, {65537, 131072}},
+        {MAX, {4, 131072}, {3, 131073}}, {REWALKS, {0, 255}, {256, 65536}},
+    };
+    size_t i, k;
+    for (i = 0; i < sizeof ranges / sizeof *ranges; i++) {
+        for (k = 0; k < 2; k++) {
+            opens_with(t, ranges[i].field, ranges[i].good[k], RHT_OPENED);
+            opens_with(t, ranges[i].field, ranges[i].bad[k], RHT_BAD_CONFIG);
+        }
+        opens_with(t, ranges[i].field, UINT32_MAX, RHT_BAD_CONFIG);
+        opens_with(t, ranges[i].field, 1U << 31, RHT_BAD_CONFIG);
+    }
+    opens_with(t, HINT, 0, RHT_OPENED);
+    opens_with(t, MAX, 0, RHT_OPENED);
+    opens_with(t, MAX, 1, RHT_BAD_CONFIG);
+    opens_with(t, MAX, 2, RHT_BAD_CONFIG);
+    opens_with(t, MAX, 262143, RHT_BAD_CONFIG);
+    opens_with(t, SEED, 0, RHT_OPENED);
+    opens_with(t, SEED, UINT32_MAX, RHT_OPENED);
+}
+
+/* Sizes are rounded, min up and max down, and then have to agree and to fit the pages. A refusal leaves them. */
+static void rounds_sizes(struct test *t)
+{
+    static const struct { uint32_t min, max, pages, code, min_behind, max_behind; } rows[] = {
+        {0, 0, 256, RHT_OPENED, 4, 0}, {1, 4, 256, RHT_OPENED, 4, 4}, {4, 5, 256, RHT_OPENED, 4, 4},
+        {5, 8, 256, RHT_OPENED, 8, 8}, {5, 15, 256, RHT_OPENED, 8, 8}, {100, 300, 256, RHT_OPENED, 128, 256},
+        {5, 7, 256, RHT_BAD_CONFIG, 5, 7}, {9, 15, 256, RHT_BAD_CONFIG, 9, 15},
+        {40000, 131072, 1024, RHT_OPENED, 65536, 131072}, {65536, 0, 1024, RHT_OPENED, 65536, 0},
+        {40000, 0, 1023, RHT_BAD_CONFIG, 40000, 0}, {65536, 65535, 4096, RHT_BAD_CONFIG, 65536, 65535},
+    };
+    size_t i;
+    for (i = 0; i < sizeof rows / sizeof *rows; i++) {
+        set_plain(t);
+        t->config.min = rows[i].min;
+        t->config.max = rows[i].max;
+        t->config.pages = rows[i].pages;
+        ANSWERS(t, rht_open(&t->config, t->handles, 1), rows[i].code);
+        CHECK(t, t->config.min == rows[i].min_behind && t->config.max == rows[i].max_behind);
+        close_table(t);
+    }
+}
+
+/* The first table's buckets have to fit the pages. */
+static void fits_pages(struct test *t)
+{
+    set_plain(t);
+    t->config.hint = 65536;
+    t->config.pages = 2047;
+    ANSWERS(t, rht_open(&t->config, t->handles, 1), RHT_BAD_CONFIG);
+    t->config.max = 65536;
+    ANSWERS(t, rht_open(&t->config, t->handles, 1), RHT_OPENED);
+    close_table(t);
+    t->config.max = 0;
+    t->config.pages = 2048;
+    ANSWERS(t, rht_open(&t->config, t->handles, 1), RHT_OPENED);
+    close_table(t);
+}
+
+static const struct named tests[] = {
+    {"is_not_open", is_not_open}, {"is_in_call", is_in_call}, {"is_in_no_call", is_in_no_call},
+    {"closes_twice", closes_twice}, {"is_still_open", is_still_open}, {"has_wrong_counts", has_wrong_counts},
+    {"has_several_causes", has_several_causes}, {"has_bad_configs", has_bad_configs},
+    {"rounds_sizes", rounds_sizes}, {"fits_pages", fits_pages},
+};
+
+int main(void) { return run_all("wrong", tests, sizeof tests / sizeof *tests); }

@@ -1,0 +1,261 @@
+/* A table of ports that threads share: the resizable hash table of the library rht.
+ *
+ * Each thread has a handle of its own. Look-ups and walks take no lock and wait for nobody. The calls behind
+ * these functions are proved; this file, and what the program does with it, are not. docs/EMBEDDING.md says
+ * what is proved, and how to build.
+ *
+ * What the program owes, since nothing here can check it:
+ *   - A handle is RHT_HANDLE_INIT, or all its bytes are 0, before it is opened. Nobody but these functions writes
+ *     to it. It is never copied; its bytes may be moved while no function has it.
+ *   - A handle is in one function at a time. A thread that hands its handle to another one synchronises with it:
+ *     by a lock, by starting or joining a thread, or by a sequentially consistent atomic.
+ *   - A pointer points to as many values as its function says, is aligned, and isn't null, also where there are no
+ *     values. What it points to is initialised, also where a function only writes, and each bool in it is 0 or 1.
+ *     It doesn't overlap with what another argument points to. No other thread touches it meanwhile.
+ *   - A function is left by its return alone: by no longjmp, exception or cancellation.
+ *   - No function is called in a signal handler, or in the forked child of a process with several threads.
+ *   - malloc, realloc and free are those of one allocator. They align a block to each power of two up to 16 that
+ *     divides its size.
+ *   - Nothing else in the program defines a name that begins with rht_ or rattle_. The processor is of x86-64-v2.
+ *
+ * A handle whose call is in progress may hold the lock of a bucket, be the one at work, and be in a section that
+ * keeps nodes from coming back. Others then get RHT_NOT_YET, RHT_ELSEWHERE and RHT_PENDING, as long as it isn't
+ * gone on with. So a thread that has begun a call on one handle goes on with it before it waits for another one.
+ *
+ * Calls on one handle are made in their order. Of calls on different handles an order is proved to exist that
+ * fits all replies; that it is the order of time isn't proved. */
+#ifndef RHT_H
+#define RHT_H
+
+#include <stdbool.h>
+#include <stddef.h>
+#include <stdint.h>
+
+#ifdef __cplusplus
+extern "C" {
+#endif
+
+/* What a call came to. A code below RHT_OPENED is a reply of the table, or says that there is none yet. From
+ * RHT_NOT_OPEN on it is a refusal: nothing was done, and what the arguments point to is as it was. */
+enum rht_code {
+    RHT_NOT_YET = 0,      /* the call is in progress: rht_go_on goes on with it */
+    RHT_BOUND = 1,        /* the port is bound to the owner now; kick */
+    RHT_EXISTS = 2,       /* the port was bound already: owner is its first owner; single tables alone */
+    RHT_FOUND = 3,        /* owner is the port's first owner */
+    RHT_MISSING = 4,      /* the port isn't bound */
+    RHT_LISTED = 5,       /* the port has len owners, which rht_owners gives */
+    RHT_RELEASED = 6,     /* one binding of the port to the owner was taken out; kick */
+    RHT_ABSENT = 7,       /* the port isn't bound to this owner */
+    RHT_REBOUND = 8,      /* the new owner has the old one's place */
+    RHT_TOO_BIG = 9,      /* it was found to hold count ports, which is all that it may hold or more */
+    RHT_AGAIN = 10,       /* the table in slot `table` came between: call again, with a walk from its beginning */
+    RHT_BUSY = 11,        /* a resize from slot `table` to slot `last` has to end first, as by rht_work_begin */
+    RHT_NO_TABLE = 12,    /* a table of size buckets, or a page of one, was wanted and couldn't be had */
+    RHT_NO_NODE = 13,     /* each node was found taken at some moment: tidy, on each handle, and try again */
+    RHT_PENDING = 14,     /* the handle number `caller` is in a call still that it was in when the nodes began to wait;
+                             section is its section word */
+    RHT_ELSEWHERE = 15,   /* another handle is at work */
+    RHT_WALKED = 16,      /* len pairs were seen, which rht_pairs gives; the walk goes on at next */
+    RHT_MOVED = 17,       /* entries were moved, or are to be; where again is set there is more to do */
+    RHT_IDLE = 18,        /* nothing was to be done */
+    RHT_CLEAR = 19,       /* returned nodes are free again */
+    RHT_COUNTED = 20,     /* at most count ports are bound, and at least as many less the handles in a call */
+    RHT_OPENED = 32,      /* the handles are open */
+    RHT_CLOSED = 33,      /* the handle is closed, and blank again */
+    RHT_NOT_OPEN = 64,    /* the handle is blank */
+    RHT_IN_CALL = 65,     /* a call of this handle is in progress: rht_go_on goes on with it */
+    RHT_NO_CALL = 66,     /* none is, so there is none to go on with */
+    RHT_NO_STEPS = 67,    /* to go on by no operation was asked */
+    RHT_BAD_CONFIG = 80,  /* no table can be opened with this config */
+    RHT_BAD_COUNT = 81,   /* there aren't as many handles as the config has callers */
+    RHT_STILL_OPEN = 82,  /* one of the handles is open */
+    RHT_NO_MEMORY = 83    /* memory has run out, and none of it stays taken */
+};
+
+/* A port: a number in a net. */
+typedef struct rht_port {
+    uint32_t number;
+    uint16_t net;
+} rht_port;
+
+/* A port, and its first owner. */
+typedef struct rht_pair {
+    rht_port port;
+    uint32_t owner;
+} rht_pair;
+
+/* Where a walk goes on. With more false, as of one whose bytes are all 0, it is where a walk begins: the first
+ * bucket. Where a walk has left it with more false, the walk has come to the table's end. */
+typedef struct rht_cursor {
+    uint64_t serial;
+    uint32_t bucket;
+    bool more;
+} rht_cursor;
+
+/* What a table is opened with. min is at most max, where that isn't 0. The first table has 64 buckets, or the least
+ * power of two above four thirds of the hint, min at least and max at most; it has to fit in the pages. */
+typedef struct rht_config {
+    uint32_t nodes;    /* the bindings that there may be at one time: 1 to 65,536 */
+    uint32_t pages;    /* pages of 64 words that buckets are kept in: 4 to 4,096 */
+    uint32_t callers;  /* the handles of the table: 1 to 16 */
+    uint32_t hint;     /* the ports that are expected: 1 to 65,536, or 0 where nothing is said */
+    uint32_t min;      /* the least size in buckets: at most 65,536, rounded up to a power of two, 4 at least */
+    uint32_t max;      /* the greatest size in buckets: 4 to 131,072, rounded down to a power of two; 0 for none */
+    uint32_t seed;     /* the seed of the first table's hash; against chosen ports a random one helps */
+    uint32_t rewalks;  /* how often a look-up walks one bucket again: 0 to 255 */
+    bool listed;       /* a port may have any number of owners; the last one that came is the first */
+    bool low;          /* a port's number is its hash, so that a test can choose buckets; otherwise it is by jhash */
+    bool shrink;       /* the table gets smaller when it is nearly empty */
+} rht_config;
+
+/* The numbers that come with a reply, each where the reply's line above names it, and otherwise 0. Where a function
+ * answers no reply, it leaves them as they were. */
+typedef struct rht_reply {
+    uint64_t count;
+    uint64_t section;
+    rht_cursor next;
+    uint32_t owner;
+    uint32_t len;
+    uint32_t table;
+    uint32_t last;
+    uint32_t size;
+    uint32_t returned;
+    uint32_t caller;
+    bool kick;   /* the table may want to grow or shrink: call rht_work_begin */
+    bool again;
+} rht_reply;
+
+/* A caller of a table, or nothing. Its fields are the library's. Each function writes to its handle, so handles of
+ * different threads are best kept in cache lines of their own. */
+typedef struct rht_handle {
+    void *at;
+    bool in_use;
+} rht_handle;
+
+/* To initialise with: a blank handle; a config as rht_config_init makes it; a reply without numbers. */
+#define RHT_HANDLE_INIT {NULL, false}
+#define RHT_CONFIG_INIT {4096, 256, 1, 0, 4, 0, 1, 8, false, false, false}
+#define RHT_REPLY_INIT {0, 0, {0, 0, false}, 0, 0, 0, 0, 0, 0, 0, false, false}
+
+/* ---- opening and closing */
+
+/* A table with 4,096 nodes, 256 pages and one caller, of one owner for each port, that doesn't shrink. */
+void rht_config_init(rht_config *config);
+
+/* Opens a table with count handles, which have to be as many as config->callers, and blank: the one at place i
+ * is the caller number i. Sizes in the config are rounded first, and config says them where the table was opened.
+ * All memory that the calls below need is taken here. RHT_OPENED; or the first of RHT_BAD_CONFIG, RHT_BAD_COUNT,
+ * RHT_STILL_OPEN and RHT_NO_MEMORY for which there is a reason. */
+uint32_t rht_open(rht_config *config, rht_handle *handles, size_t count);
+
+/* Closes a handle, whose number is given to no other. The table goes with its last handle. The nodes that its calls
+ * took out and that it hasn't tidied stay taken until then. RHT_CLOSED, RHT_NOT_OPEN, RHT_IN_CALL. */
+uint32_t rht_close(rht_handle *handle);
+
+/* ---- calls that wait for nobody; each is refused as RHT_NOT_OPEN or RHT_IN_CALL */
+
+/* Looks a port up. RHT_FOUND, which writes owner; RHT_MISSING. Otherwise owner stays as it is. */
+uint32_t rht_find(rht_handle *handle, rht_port port, uint32_t *owner);
+
+/* Walks the table from a cursor on, bucket by bucket, until a bucket ends with limit pairs or more seen; with a
+ * limit of 0 after one bucket. There are never more pairs than nodes. RHT_WALKED; or RHT_AGAIN where the walk has to
+ * begin anew, which it has to while a table is behind the current one, until an rht_work_begin has moved its entries.
+ * The pairs stay until the handle's next call. */
+uint32_t rht_walk(rht_handle *handle, rht_cursor from, uint32_t limit, rht_reply *reply);
+
+/* Gives back nodes that this handle's calls took out, all that wait or none: RHT_CLEAR, or RHT_PENDING, also where
+ * none waits. What was taken out while others waited is for a later call. */
+uint32_t rht_tidy(rht_handle *handle, rht_reply *reply);
+
+/* Counts the bound ports, by one load: RHT_COUNTED. */
+uint32_t rht_count(rht_handle *handle, rht_reply *reply);
+
+/* ---- calls that may have to wait for another handle: each makes one operation, and rht_go_on makes more.
+ * RHT_NOT_YET comes from each of them; they are refused as the calls above. */
+
+/* Binds a port: RHT_BOUND, RHT_EXISTS, RHT_TOO_BIG, RHT_BUSY, RHT_NO_TABLE, RHT_NO_NODE. */
+uint32_t rht_bind_begin(rht_handle *handle, rht_port port, uint32_t owner, rht_reply *reply);
+
+/* Binds a port, and is tried once alone: also RHT_AGAIN. */
+uint32_t rht_bind_once_begin(rht_handle *handle, rht_port port, uint32_t owner, rht_reply *reply);
+
+/* Takes one binding of the port to the owner out: RHT_RELEASED, RHT_ABSENT. */
+uint32_t rht_release_begin(rht_handle *handle, rht_port port, uint32_t owner, rht_reply *reply);
+
+/* Puts a new owner in the place of the port's first owner that is this one: RHT_REBOUND, RHT_ABSENT, RHT_NO_NODE. */
+uint32_t rht_rebind_begin(rht_handle *handle, rht_port port, uint32_t owner, uint32_t with, rht_reply *reply);
+
+/* Lists the owners of a port: RHT_LISTED. They stay until the handle's next call. */
+uint32_t rht_all_begin(rht_handle *handle, rht_port port, rht_reply *reply);
+
+/* Resizes the table where that is due, and gives back tables that were left: RHT_MOVED, RHT_IDLE, RHT_ELSEWHERE,
+ * RHT_NO_TABLE. */
+uint32_t rht_work_begin(rht_handle *handle, rht_reply *reply);
+
+/* Goes on with the call in progress by that many operations, unless it ends before: its reply, or RHT_NOT_YET
+ * after exactly so many. Refused as RHT_NO_STEPS where steps is 0, RHT_NOT_OPEN, RHT_NO_CALL. */
+uint32_t rht_go_on(rht_handle *handle, uint32_t steps, rht_reply *reply);
+
+/* ---- lists: what came with the handle's last call, from the place skip on, as far as there is room for it.
+ * They answer how many were written; 0 also where the handle is blank or in a call. */
+
+/* The owners that came with RHT_LISTED, the first owner first. */
+size_t rht_owners(rht_handle *handle, size_t skip, uint32_t *into, size_t room);
+
+/* The pairs that came with RHT_WALKED, in the order in which they were seen. */
+size_t rht_pairs(rht_handle *handle, size_t skip, rht_pair *into, size_t room);
+
+/* ---- the same calls for programs that want to wait. These are loops of this file, over the functions above.
+ * They end only if the threads go on whose handles they wait for. */
+
+/* What a waiting call does between two times that it goes on, as sched_yield(). */
+#ifndef RHT_YIELD
+#define RHT_YIELD() ((void)0)
+#endif
+
+/* Goes on with a call that has come to this code, until it has ended. */
+static inline uint32_t rht_finish(rht_handle *handle, uint32_t code, rht_reply *reply)
+{
+    while (code == RHT_NOT_YET) {
+        code = rht_go_on(handle, 64, reply);
+        if (code == RHT_NOT_YET)
+            RHT_YIELD();
+    }
+    return code;
+}
+
+static inline uint32_t rht_bind(rht_handle *handle, rht_port port, uint32_t owner, rht_reply *reply)
+{
+    return rht_finish(handle, rht_bind_begin(handle, port, owner, reply), reply);
+}
+
+static inline uint32_t rht_bind_once(rht_handle *handle, rht_port port, uint32_t owner, rht_reply *reply)
+{
+    return rht_finish(handle, rht_bind_once_begin(handle, port, owner, reply), reply);
+}
+
+static inline uint32_t rht_release(rht_handle *handle, rht_port port, uint32_t owner, rht_reply *reply)
+{
+    return rht_finish(handle, rht_release_begin(handle, port, owner, reply), reply);
+}
+
+static inline uint32_t rht_rebind(rht_handle *handle, rht_port port, uint32_t owner, uint32_t with, rht_reply *reply)
+{
+    return rht_finish(handle, rht_rebind_begin(handle, port, owner, with, reply), reply);
+}
+
+static inline uint32_t rht_all(rht_handle *handle, rht_port port, rht_reply *reply)
+{
+    return rht_finish(handle, rht_all_begin(handle, port, reply), reply);
+}
+
+static inline uint32_t rht_work(rht_handle *handle, rht_reply *reply)
+{
+    return rht_finish(handle, rht_work_begin(handle, reply), reply);
+}
+
+#ifdef __cplusplus
+}
+#endif
+
+#endif

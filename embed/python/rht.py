@@ -1,0 +1,726 @@
+"""A table of ports that threads share: the resizable hash table of the library rht, from Python.
+
+A port is a number in a net, and has an owner, or in a table of lists any number of them. Up to 16 threads bind, look
+up, list, release and rebind ports, walk the table, and resize it meanwhile. Each has a seat of its own.
+
+    import rht
+
+    with rht.Table(callers=2) as table:
+        seat = table.seats[0]
+        seat.bind(80, owner=100)    # Bound(kick=False)
+        seat.find(80)               # 100
+        seat.find(rht.Port(80, 1))  # None
+
+What a call answers is an object: Bound, Exists, NoNode and so on, as each call says. A reply is true where the call
+did what it was asked for: Bound, Released, Rebound, Walked, Moved and Clear are. All others are false. What isn't an
+answer of the table is raised: a ValueError or TypeError of a wrong argument, or an RhtError.
+
+What a program does beside its calls:
+
+- A reply with a kick says that the table is due to be resized: some seat makes work(), again while it answers
+  Moved(again=True).
+- A release and a rebind take a node out. It is free again behind a tidy() of the same seat.
+- A call that an exception broke off may hold a lock, be the one at work, and keep nodes from coming back. Make a
+  further call of that seat, which finishes it, or close the seat.
+
+What is proved, and what isn't: the calls of the library are proved, and docs/EMBEDDING.md tells what of them. This
+module isn't, and neither is that it fits the library. Tests compare it with the header rht.h. Calls of one seat are
+made in their order. Of the calls of different seats an order is proved to exist that fits all replies; that it is the
+order of time isn't proved. That a call which waits comes to an end is not claimed, and neither is any speed.
+
+What the library asks of a program is kept here at run time:
+
+- A seat is in one call at a time. The interpreter's lock is let go during a call, so a seat has a lock of its own. It
+  isn't waited for: a second thread gets SeatInUse.
+- A seat is never copied or pickled; that raises TypeError.
+- Behind a fork the seats are dead in the child: calls raise Forked, and closing does nothing.
+- Numbers that are out of range raise ValueError before the library sees them.
+
+Python 3.8 or newer is needed, with 64-bit pointers. The shared library librht.so lies in ../out/lib, where embed/build
+puts it, or in the folder that the variable RHT_LIB names.
+"""
+
+import ctypes
+import functools
+import operator
+import os
+import threading
+import time
+from dataclasses import dataclass
+from typing import List, NamedTuple, Optional
+
+__all__ = [
+    "Absent", "Again", "BadConfig", "Bound", "Busy", "Clear", "Config", "Cursor", "Elsewhere", "Exists", "Forked",
+    "Idle", "Misfit", "Moved", "NoMemory", "NoNode", "NoTable", "NotWhole", "Pair", "Pending", "Port", "Rebound",
+    "Released", "Reply", "RhtError", "Seat", "SeatClosed", "SeatInUse", "Table", "TooBig", "Walked",
+]
+
+# ---- what is said
+
+
+class Port(NamedTuple):
+    """A port: a number of 32 bits in a net of 16 bits. Where a call takes a port, a number alone is one of net 0."""
+
+    number: int
+    net: int = 0
+
+
+class Pair(NamedTuple):
+    """A port, and its first owner."""
+
+    port: Port
+    owner: int
+
+
+class Cursor(NamedTuple):
+    """Where a walk goes on. Any numbers may be written here: a cursor that doesn't fit is answered Again."""
+
+    serial: int
+    bucket: int
+
+
+@dataclass(frozen=True)
+class Config:
+    """What a table was opened with, its sizes rounded. Table says what each number means."""
+
+    nodes: int
+    pages: int
+    callers: int
+    hint: int
+    min: int
+    max: int
+    seed: int
+    rewalks: int
+    listed: bool
+    low: bool
+    shrink: bool
+
+
+@dataclass(frozen=True)
+class Reply:
+    """What a call answers. It is true where the call did what it was asked for."""
+
+    def __bool__(self) -> bool:
+        return isinstance(self, (Bound, Released, Rebound, Walked, Moved, Clear))
+
+
+@dataclass(frozen=True)
+class Bound(Reply):
+    """The port is bound to the owner now. With kick the table may want to be resized: make work()."""
+
+    kick: bool
+
+
+@dataclass(frozen=True)
+class Exists(Reply):
+    """The port was bound already, to this owner. It comes only in tables of one owner for each port."""
+
+    owner: int
+
+
+@dataclass(frozen=True)
+class TooBig(Reply):
+    """Nothing was bound: the table was found to hold count ports, which is all that it may hold or more."""
+
+    count: int
+
+
+@dataclass(frozen=True)
+class Busy(Reply):
+    """Nothing was bound: a resize from slot table to slot last has to end first. Work, and bind again."""
+
+    table: int
+    last: int
+
+
+@dataclass(frozen=True)
+class NoTable(Reply):
+    """A table of size buckets, or a page of one, was wanted and couldn't be had. Nothing was bound, or moved."""
+
+    size: int
+
+
+@dataclass(frozen=True)
+class NoNode(Reply):
+    """Nothing was bound: each node was found taken at some moment. Tidy, by each seat that took nodes out, and make the
+    call again."""
+
+
+@dataclass(frozen=True)
+class Again(Reply):
+    """A table in slot table is behind the one that was used, or is the one with which a walk has to begin. Nothing was
+    bound or seen: bind again, or begin the walk anew."""
+
+    table: int
+
+
+@dataclass(frozen=True)
+class Released(Reply):
+    """One binding of the port to the owner was taken out. With kick the table may want to be resized: make
+    work()."""
+
+    kick: bool
+
+
+@dataclass(frozen=True)
+class Absent(Reply):
+    """The port isn't bound to this owner."""
+
+
+@dataclass(frozen=True)
+class Rebound(Reply):
+    """The new owner has the old one's place."""
+
+
+@dataclass(frozen=True)
+class Walked(Reply):
+    """These pairs were seen. The walk goes on at next; where that is None it has come to the table's end."""
+
+    pairs: List[Pair]
+    next: Optional[Cursor]
+
+
+@dataclass(frozen=True)
+class Moved(Reply):
+    """Entries were moved to a new table, or are to be. With again there is more to do."""
+
+    again: bool
+
+
+@dataclass(frozen=True)
+class Idle(Reply):
+    """Nothing was to be done."""
+
+
+@dataclass(frozen=True)
+class Elsewhere(Reply):
+    """Another seat is at work, so nothing was done."""
+
+
+@dataclass(frozen=True)
+class Clear(Reply):
+    """So many nodes that waited are free again."""
+
+    returned: int
+
+
+@dataclass(frozen=True)
+class Pending(Reply):
+    """The seat with the number caller is in a call still that it was in when nodes began to wait. So none is free
+    again: tidy later. The number section changes when that call ends."""
+
+    caller: int
+    section: int
+
+
+# ---- what is raised
+
+
+class RhtError(Exception):
+    """What a call raises that isn't an answer of the table. But for NotWhole and Misfit nothing was done, and the table
+    is as it was."""
+
+
+class BadConfig(RhtError):
+    """No table can be opened with these numbers: one isn't in its range, or they don't agree."""
+
+
+class NoMemory(RhtError):
+    """No table was opened, since memory has run out."""
+
+
+class SeatClosed(RhtError):
+    """The seat was closed."""
+
+
+class SeatInUse(RhtError):
+    """The seat is in a call, of another thread or of this one. It wasn't waited for."""
+
+
+class Forked(RhtError):
+    """The process is a fork of the one that opened the table, so its seats are dead."""
+
+
+class NotWhole(RhtError):
+    """No walk came to the table's end in so many tries: each time a table was behind the one that was walked. What is
+    bound didn't change by it."""
+
+
+class Misfit(RhtError):
+    """The library answered with a code that the call doesn't have, so it doesn't fit this module. What the call did
+    isn't known."""
+
+    def __init__(self, code: int):
+        super().__init__("librht.so and rht.py don't fit: a call came to code %d" % code)
+        self.code = code
+
+
+# ---- the header, written by hand after rht.h
+
+_NOT_YET = 0
+_BOUND = 1
+_EXISTS = 2
+_FOUND = 3
+_MISSING = 4
+_LISTED = 5
+_RELEASED = 6
+_ABSENT = 7
+_REBOUND = 8
+_TOO_BIG = 9
+_AGAIN = 10
+_BUSY = 11
+_NO_TABLE = 12
+_NO_NODE = 13
+_PENDING = 14
+_ELSEWHERE = 15
+_WALKED = 16
+_MOVED = 17
+_IDLE = 18
+_CLEAR = 19
+_COUNTED = 20
+_OPENED = 32
+_CLOSED = 33
+_NOT_OPEN = 64
+_IN_CALL = 65
+_BAD_CONFIG = 80
+_NO_MEMORY = 83
+
+_U16 = ctypes.c_uint16
+_U32 = ctypes.c_uint32
+_U64 = ctypes.c_uint64
+_BOOL = ctypes.c_bool
+
+
+class _Port(ctypes.Structure):
+    _fields_ = [("number", _U32), ("net", _U16)]
+
+
+class _Pair(ctypes.Structure):
+    _fields_ = [("port", _Port), ("owner", _U32)]
+
+
+class _Cursor(ctypes.Structure):
+    _fields_ = [("serial", _U64), ("bucket", _U32), ("more", _BOOL)]
+
+
+class _Config(ctypes.Structure):
+    _fields_ = [
+        ("nodes", _U32), ("pages", _U32), ("callers", _U32), ("hint", _U32), ("min", _U32), ("max", _U32),
+        ("seed", _U32), ("rewalks", _U32), ("listed", _BOOL), ("low", _BOOL), ("shrink", _BOOL),
+    ]
+
+
+class _Reply(ctypes.Structure):
+    _fields_ = [
+        ("count", _U64), ("section", _U64), ("next", _Cursor), ("owner", _U32), ("len", _U32), ("table", _U32),
+        ("last", _U32), ("size", _U32), ("returned", _U32), ("caller", _U32), ("kick", _BOOL), ("again", _BOOL),
+    ]
+
+
+class _Handle(ctypes.Structure):
+    _fields_ = [("at", ctypes.c_void_p), ("in_use", _BOOL)]
+
+
+# The sizes that the header gives, and the offset of each struct's last field.
+_SIZES = [(_Port, 8, 4), (_Pair, 12, 8), (_Cursor, 16, 12), (_Config, 36, 34), (_Reply, 64, 61), (_Handle, 16, 8)]
+
+_AT = ctypes.POINTER(_Handle)
+_SAYS = ctypes.POINTER(_Reply)
+_FUNCTIONS = {
+    "rht_config_init": (None, [ctypes.POINTER(_Config)]),
+    "rht_open": (_U32, [ctypes.POINTER(_Config), _AT, ctypes.c_size_t]),
+    "rht_close": (_U32, [_AT]),
+    "rht_find": (_U32, [_AT, _Port, ctypes.POINTER(_U32)]),
+    "rht_walk": (_U32, [_AT, _Cursor, _U32, _SAYS]),
+    "rht_tidy": (_U32, [_AT, _SAYS]),
+    "rht_count": (_U32, [_AT, _SAYS]),
+    "rht_bind_begin": (_U32, [_AT, _Port, _U32, _SAYS]),
+    "rht_bind_once_begin": (_U32, [_AT, _Port, _U32, _SAYS]),
+    "rht_release_begin": (_U32, [_AT, _Port, _U32, _SAYS]),
+    "rht_rebind_begin": (_U32, [_AT, _Port, _U32, _U32, _SAYS]),
+    "rht_all_begin": (_U32, [_AT, _Port, _SAYS]),
+    "rht_work_begin": (_U32, [_AT, _SAYS]),
+    "rht_go_on": (_U32, [_AT, _U32, _SAYS]),
+    "rht_owners": (ctypes.c_size_t, [_AT, ctypes.c_size_t, ctypes.POINTER(_U32), ctypes.c_size_t]),
+    "rht_pairs": (ctypes.c_size_t, [_AT, ctypes.c_size_t, ctypes.POINTER(_Pair), ctypes.c_size_t]),
+}
+
+
+def _loaded():
+    """The library, once its structs were compared and its functions found."""
+    for struct, size, last in _SIZES:
+        field = struct._fields_[-1][0]
+        if ctypes.sizeof(struct) != size or getattr(struct, field).offset != last:
+            raise ImportError("rht: %s doesn't lie as in rht.h" % struct.__name__)
+    beside = os.path.join(os.path.dirname(os.path.abspath(__file__)), os.pardir, "out", "lib")
+    path = os.path.abspath(os.path.join(os.environ.get("RHT_LIB") or beside, "librht.so"))
+    try:
+        lib = ctypes.CDLL(path)
+        for name, (result, arguments) in _FUNCTIONS.items():
+            function = getattr(lib, name)
+            function.restype = result
+            function.argtypes = arguments
+    except (OSError, AttributeError) as error:
+        raise ImportError("rht: run embed/build, or set RHT_LIB to a folder with librht.so (%s)" % error) from error
+    return lib
+
+
+_lib = _loaded()
+
+_REPLIES = {
+    _BOUND: lambda reply: Bound(reply.kick),
+    _EXISTS: lambda reply: Exists(reply.owner),
+    _RELEASED: lambda reply: Released(reply.kick),
+    _ABSENT: lambda reply: Absent(),
+    _REBOUND: lambda reply: Rebound(),
+    _TOO_BIG: lambda reply: TooBig(reply.count),
+    _AGAIN: lambda reply: Again(reply.table),
+    _BUSY: lambda reply: Busy(reply.table, reply.last),
+    _NO_TABLE: lambda reply: NoTable(reply.size),
+    _NO_NODE: lambda reply: NoNode(),
+    _PENDING: lambda reply: Pending(reply.caller, reply.section),
+    _ELSEWHERE: lambda reply: Elsewhere(),
+    _MOVED: lambda reply: Moved(reply.again),
+    _IDLE: lambda reply: Idle(),
+    _CLEAR: lambda reply: Clear(reply.returned),
+}
+
+_OF_BIND = (_BOUND, _EXISTS, _TOO_BIG, _BUSY, _NO_TABLE, _NO_NODE)
+_OF_RELEASE = (_RELEASED, _ABSENT)
+_OF_REBIND = (_REBOUND, _ABSENT, _NO_NODE)
+_OF_WORK = (_MOVED, _IDLE, _ELSEWHERE, _NO_TABLE)
+_OF_TIDY = (_CLEAR, _PENDING)
+
+# How many operations a waiting call makes between two times that it yields.
+_OPERATIONS = 1024
+
+# The limit of a piece, where a whole walk is made.
+_PIECE = 256
+
+
+def _told(code, reply, codes):
+    """The reply that this code tells, which has to be one of these."""
+    if code not in codes:
+        raise Misfit(code)
+    return _REPLIES[code](reply)
+
+
+def _number(value, bits, what):
+    """A number of so many bits. ctypes would cut a greater one off without a word."""
+    value = operator.index(value)
+    if not 0 <= value < 1 << bits:
+        raise ValueError("%s has to be from 0 to %d, and is %d" % (what, (1 << bits) - 1, value))
+    return value
+
+
+def _port(port):
+    """The struct of a port, or of a number alone."""
+    number, net = port if isinstance(port, tuple) else (port, 0)
+    return _Port(_number(number, 32, "a port's number"), _number(net, 16, "a port's net"))
+
+
+def _alone(method):
+    """Lets one thread at a time into a method of a seat, and refuses any other."""
+
+    @functools.wraps(method)
+    def guarded(self, *args, **kwargs):
+        if os.getpid() != self._pid:
+            raise Forked("the process that opened seat %d was %d" % (self.caller, self._pid))
+        if not self._lock.acquire(False):
+            raise SeatInUse("seat %d is in a call" % self.caller)
+        try:
+            return method(self, *args, **kwargs)
+        finally:
+            self._lock.release()
+
+    return guarded
+
+
+# ---- seats and tables
+
+
+class Seat:
+    """A caller of a table. A table has its seats in `Table.seats`; a program makes none by itself.
+
+    Calls: find, walk, tidy and count wait for nobody. bind, release, rebind, all, work and pairs may wait for another
+    seat. They make some operations at a time and yield to other threads in between, so an exception as
+    KeyboardInterrupt may break one off. Such a call is finished before the seat's next one, and its reply is lost.
+    A waiting call ends only if the threads go on for whose seats it waits.
+
+    Each call raises SeatClosed, SeatInUse or Forked where it isn't made, and ValueError or TypeError for a wrong
+    argument. Owners are numbers of 32 bits.
+
+    A seat that nobody has any more is closed, unless a call of it is in progress.
+    """
+
+    def __init__(self, caller, handle):
+        self.caller = caller
+        self._handle = handle
+        self._at = ctypes.pointer(handle)
+        self._pid = os.getpid()
+        self._lock = threading.Lock()
+
+    def __repr__(self):
+        return "<rht.Seat %d>" % self.caller
+
+    def __reduce_ex__(self, protocol):
+        raise TypeError("a seat can't be copied or pickled")
+
+    def __del__(self, getpid=os.getpid, close=_lib.rht_close):
+        if getpid() == self._pid:
+            close(self._at)
+
+    def _made(self, function, *args):
+        """The code of a call. One that an exception broke off before is finished first."""
+        code = function(self._at, *args)
+        if code == _IN_CALL:
+            self._go_on(_Reply())
+            code = function(self._at, *args)
+        if code == _NOT_OPEN:
+            raise SeatClosed("seat %d was closed" % self.caller)
+        return code
+
+    def _go_on(self, reply):
+        """Goes on with the call in progress until it has ended, and answers its code."""
+        while True:
+            code = _lib.rht_go_on(self._at, _OPERATIONS, ctypes.byref(reply))
+            if code != _NOT_YET:
+                return code
+            time.sleep(0)
+
+    def _waited(self, begin, *args):
+        """The code of a call that may wait, and its numbers."""
+        reply = _Reply()
+        code = self._made(begin, *args, ctypes.byref(reply))
+        if code == _NOT_YET:
+            code = self._go_on(reply)
+        return code, reply
+
+    def _list(self, function, struct, count):
+        """What came with the last call, which are so many."""
+        if count == 0:
+            return []
+        into = (struct * count)()
+        return into[: function(self._at, 0, into, count)]
+
+    @_alone
+    def find(self, port) -> Optional[int]:
+        """The port's first owner, or None where it isn't bound. The answer was so at a moment of the call, and a port
+        that is bound throughout the call is found. Both are proved of the library's call."""
+        owner = _U32()
+        code = self._made(_lib.rht_find, _port(port), ctypes.byref(owner))
+        if code == _MISSING:
+            return None
+        if code != _FOUND:
+            raise Misfit(code)
+        return owner.value
+
+    @_alone
+    def bind(self, port, owner, once=False) -> Reply:
+        """Binds a port to an owner: Bound, Exists, TooBig, Busy, NoTable, NoNode. With once it is tried once alone, and
+        may answer Again."""
+        begin = _lib.rht_bind_once_begin if once else _lib.rht_bind_begin
+        codes = _OF_BIND + (_AGAIN,) if once else _OF_BIND
+        return _told(*self._waited(begin, _port(port), _number(owner, 32, "an owner")), codes)
+
+    @_alone
+    def release(self, port, owner) -> Reply:
+        """Takes one binding of the port to the owner out: Released, Absent."""
+        owner = _number(owner, 32, "an owner")
+        return _told(*self._waited(_lib.rht_release_begin, _port(port), owner), _OF_RELEASE)
+
+    @_alone
+    def rebind(self, port, owner, new) -> Reply:
+        """Puts a new owner in the place of the port's first owner that is this one: Rebound, Absent, NoNode. To all
+        other calls it is one step."""
+        owner, new = _number(owner, 32, "an owner"), _number(new, 32, "a new owner")
+        return _told(*self._waited(_lib.rht_rebind_begin, _port(port), owner, new), _OF_REBIND)
+
+    @_alone
+    def all(self, port) -> List[int]:
+        """The owners of a port, the first one first."""
+        code, reply = self._waited(_lib.rht_all_begin, _port(port))
+        if code != _LISTED:
+            raise Misfit(code)
+        return self._list(_lib.rht_owners, _U32, reply.len)
+
+    @_alone
+    def walk(self, cursor=None, limit=_PIECE) -> Reply:
+        """Walks the table bucket by bucket, from a Cursor on, or from the first bucket without one. It ends behind a
+        bucket once limit pairs or more were seen, and at a limit of 0 it walks one bucket: Walked, with the pairs.
+
+        Again comes where a table is behind the one that was walked, or where the cursor doesn't fit. It comes again
+        and again until somebody's work has moved the entries.
+
+        Of the pieces together that go from the first bucket to the table's end it is proved what the library's calls
+        show. Each port that stayed bound meanwhile is shown, and none twice. No pair is shown that wasn't so at a
+        moment meanwhile."""
+        return self._walk(cursor, limit)
+
+    def _walk(self, cursor, limit):
+        start = _Cursor()
+        if cursor is not None:
+            serial, bucket = cursor
+            start = _Cursor(_number(serial, 64, "a serial"), _number(bucket, 32, "a bucket"), True)
+        reply = _Reply()
+        code = self._made(_lib.rht_walk, start, _number(limit, 32, "a limit"), ctypes.byref(reply))
+        if code != _WALKED:
+            return _told(code, reply, (_AGAIN,))
+        pairs = [
+            Pair(Port(pair.port.number, pair.port.net), pair.owner)
+            for pair in self._list(_lib.rht_pairs, _Pair, reply.len)
+        ]
+        more = reply.next.more
+        return Walked(pairs, Cursor(reply.next.serial, reply.next.bucket) if more else None)
+
+    @_alone
+    def pairs(self, tries=16) -> List[Pair]:
+        """All pairs of a whole walk, so that one may write `for port, owner in seat.pairs()`. The walk is made as a
+        whole before the first pair is given; what changes behind it isn't seen.
+
+        Where a walk is answered Again, its pairs are given up. The seat makes work, and begins anew. After so many
+        tries NotWhole is raised. It comes where another seat is at work all the while, or has stopped there. With
+        tries 0 nothing is walked."""
+        for _ in range(tries):
+            pairs = self._whole()
+            if pairs is not None:
+                return pairs
+            self._work()
+            time.sleep(0)
+        raise NotWhole("no walk came to the table's end in %d tries" % tries)
+
+    def _whole(self):
+        """The pairs of a walk from the first bucket to the table's end, or None where it has to begin anew."""
+        pairs, cursor = [], None
+        while True:
+            reply = self._walk(cursor, _PIECE)
+            if not reply:
+                return None
+            pairs += reply.pairs
+            cursor = reply.next
+            if cursor is None:
+                return pairs
+
+    @_alone
+    def tidy(self) -> Reply:
+        """Gives back the nodes that this seat's calls took out, all that wait or none: Clear, Pending. Those that were
+        taken out while others wait are for a later tidying. Pending may come also where no node waits."""
+        reply = _Reply()
+        return _told(self._made(_lib.rht_tidy, ctypes.byref(reply)), reply, _OF_TIDY)
+
+    @_alone
+    def count(self) -> int:
+        """How many ports are bound. At a moment of the call they were at most so many, and fewer by no more than one
+        for each other seat that was in a call. This is proved of the library's call."""
+        reply = _Reply()
+        code = self._made(_lib.rht_count, ctypes.byref(reply))
+        if code != _COUNTED:
+            raise Misfit(code)
+        return reply.count
+
+    @_alone
+    def work(self) -> Reply:
+        """Gives back tables that were left, and resizes the table where that is due: Moved, Idle, Elsewhere,
+        NoTable."""
+        return self._work()
+
+    def _work(self):
+        return _told(*self._waited(_lib.rht_work_begin), _OF_WORK)
+
+    def close(self):
+        """Closes the seat, and finishes a call in progress before. A closed seat stays closed, and behind a fork
+        nothing is done. SeatInUse is raised where the seat is in a call.
+
+        The last seat of a table gives back its memory. The nodes that a seat's calls took out and that it hasn't
+        tidied stay taken while other seats of the table are open."""
+        if os.getpid() == self._pid:
+            self._close()
+
+    @_alone
+    def _close(self):
+        code = _lib.rht_close(self._at)
+        if code == _IN_CALL:
+            self._go_on(_Reply())
+            code = _lib.rht_close(self._at)
+        if code not in (_CLOSED, _NOT_OPEN):
+            raise Misfit(code)
+
+
+def _config(numbers, listed, low, shrink):
+    """The struct of a table's config. A number that is None stays that of a plain table."""
+    config = _Config()
+    _lib.rht_config_init(ctypes.byref(config))
+    config.listed, config.low, config.shrink = bool(listed), bool(low), bool(shrink)
+    for name, value in numbers.items():
+        if value is None:
+            continue
+        value = operator.index(value)
+        if not 0 <= value < 1 << 32:
+            raise BadConfig("%s is %d" % (name, value))
+        setattr(config, name, value)
+    if not 1 <= config.callers <= 16:
+        raise BadConfig("a table has 1 to 16 seats, not %d" % config.callers)
+    return config
+
+
+class Table:
+    """A table that was just opened, with `seats`, a tuple of as many seats as it has callers, and `config`. The seats
+    share the table, which lasts as long as one of them is open. With `with` all of them are closed at the end.
+
+    What a table is opened with:
+
+    - callers: its seats, 1 to 16.
+    - listed: a port may have any number of owners, and the last one that came is the first. Otherwise it has one.
+    - nodes: the bindings that there may be at one time, 1 to 65,536; 4,096 where nothing is said. One that was taken
+      out counts until it is tidied.
+    - pages: the pages that buckets are kept in, of 64 buckets each, 4 to 4,096; 256 where nothing is said.
+    - hint: the ports that are expected, 1 to 65,536, or 0 where nothing is said.
+    - min: the least size in buckets, 65,536 at most. It is rounded up to a power of two, 4 at least.
+    - max: the greatest size in buckets, 4 to 131,072, or 0 for none. It is rounded down to a power of two.
+    - seed: the seed of the first table's hash, a number of 32 bits; 1 where nothing is said. Against chosen ports a
+      random one helps.
+    - rewalks: how often a look-up walks one bucket again, 0 to 255; 8 where nothing is said.
+    - low: a port's number is its own hash, so that a test can choose buckets.
+    - shrink: the table gets smaller when it is nearly empty.
+
+    BadConfig is raised where a number isn't in its range, where min is above max, or where the first table doesn't
+    fit the pages. NoMemory is raised where memory has run out. All memory that the library's calls need is taken
+    here.
+    """
+
+    def __init__(
+        self, callers=1, *, listed=False, nodes=None, pages=None, hint=None, min=None, max=None, seed=None,
+        rewalks=None, low=False, shrink=False,
+    ):
+        numbers = {
+            "callers": callers, "nodes": nodes, "pages": pages, "hint": hint, "min": min, "max": max, "seed": seed,
+            "rewalks": rewalks,
+        }
+        config = _config(numbers, listed, low, shrink)
+        handles = (_Handle * config.callers)()
+        code = _lib.rht_open(ctypes.byref(config), handles, config.callers)
+        if code == _BAD_CONFIG:
+            raise BadConfig("no table can be opened with these numbers")
+        if code == _NO_MEMORY:
+            raise NoMemory("memory has run out")
+        if code != _OPENED:
+            raise Misfit(code)
+        self.seats = tuple(Seat(caller, handle) for caller, handle in enumerate(handles))
+        self.config = Config(**{name: getattr(config, name) for name, _ in _Config._fields_})
+
+    def close(self):
+        """Closes all seats. Where one is in a call, the others are closed, and SeatInUse is raised."""
+        in_use = None
+        for seat in self.seats:
+            try:
+                seat.close()
+            except SeatInUse as error:
+                in_use = error
+        if in_use is not None:
+            raise in_use
+
+    def __enter__(self):
+        return self
+
+    def __exit__(self, *_):
+        self.close()

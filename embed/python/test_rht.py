@@ -1,0 +1,551 @@
+"""Tests of the module rht: each call, wrong uses, threads, forks, and the header that it was written after.
+
+They run by `python3 embed/python/test_rht.py`, with the library that rht finds.
+"""
+
+import copy
+import ctypes
+import os
+import pickle
+import re
+import shutil
+import subprocess
+import sys
+import tempfile
+import threading
+import unittest
+from unittest import mock
+
+HERE = os.path.dirname(os.path.abspath(__file__))
+sys.path.insert(0, HERE)
+
+import rht  # noqa: E402
+from rht import (  # noqa: E402
+    Absent, Again, Bound, Busy, Clear, Cursor, Elsewhere, Exists, Idle, Moved, NoNode, NoTable, Pair, Pending, Port,
+    Rebound, Released, TooBig, Walked,
+)
+
+
+def small(**more):
+    """4 buckets, and a port's number picks its bucket."""
+    return rht.Table(hint=3, low=True, **more)
+
+
+def begin(seat, name, *args):
+    """Begins a call, and leaves it in progress."""
+    code = getattr(rht._lib, name)(seat._at, *args, ctypes.byref(rht._Reply()))
+    assert code == rht._NOT_YET, code
+
+
+def begin_bind(seat, number, owner):
+    begin(seat, "rht_bind_begin", rht._Port(number, 0), owner)
+
+
+class Calls(unittest.TestCase):
+    """Each call, by one thread. The replies are worked out by hand."""
+
+    def test_a_port_is_bound_found_and_released(self):
+        with rht.Table() as table:
+            (seat,) = table.seats
+            self.assertIsNone(seat.find(80))
+            self.assertEqual(seat.bind(80, 100), Bound(kick=False))
+            self.assertEqual(seat.find(Port(80)), 100)
+            self.assertEqual(seat.bind(80, 200), Exists(100))
+            self.assertEqual(seat.release(80, 200), Absent())
+            self.assertEqual(seat.release(80, 100), Released(kick=False))
+            self.assertIsNone(seat.find(80))
+
+    def test_a_net_is_a_part_of_the_port(self):
+        with rht.Table() as table:
+            (seat,) = table.seats
+            self.assertTrue(seat.bind(Port(80, 1), 0))
+            self.assertTrue(seat.bind((80, 65535), 4294967295))
+            self.assertEqual(seat.find(Port(80, 1)), 0)
+            self.assertEqual(seat.find(Port(80, 65535)), 4294967295)
+            self.assertIsNone(seat.find(80))
+
+    def test_a_rebind_takes_a_node(self):
+        with rht.Table(nodes=2) as table:
+            (seat,) = table.seats
+            seat.bind(7, 1)
+            self.assertEqual(seat.rebind(7, 2, 3), Absent())
+            self.assertEqual(seat.rebind(7, 1, 2), Rebound())
+            self.assertEqual(seat.rebind(7, 2, 3), NoNode())
+            self.assertEqual(seat.bind(8, 1), NoNode())
+            self.assertEqual(seat.tidy(), Clear(1))
+            self.assertEqual(seat.tidy(), Clear(0))
+            self.assertEqual(seat.rebind(7, 2, 3), Rebound())
+            self.assertEqual(seat.find(7), 3)
+
+    def test_a_port_of_a_listed_table_has_its_owners_in_order(self):
+        with rht.Table(listed=True) as table:
+            (seat,) = table.seats
+            for owner in (5, 6, 5):
+                self.assertEqual(seat.bind(80, owner), Bound(kick=False))
+            self.assertEqual(seat.all(80), [5, 6, 5])
+            self.assertEqual(seat.all(81), [])
+            self.assertTrue(seat.release(80, 5))
+            self.assertTrue(seat.rebind(80, 6, 9))
+            self.assertEqual(seat.all(80), [9, 5])
+            self.assertEqual(seat.count(), 1)
+
+    def test_a_call_in_progress_holds_nodes_back(self):
+        with rht.Table(callers=2) as table:
+            one, two = table.seats
+            one.bind(80, 1)
+            one.release(80, 1)
+            begin(two, "rht_all_begin", rht._Port(80, 0))
+            pending = one.tidy()
+            self.assertIsInstance(pending, Pending)
+            self.assertEqual((pending.caller, pending.section % 2), (1, 1))
+            self.assertEqual(one.tidy(), pending)
+            self.assertIsNone(two.find(80))
+            self.assertEqual(one.tidy(), Clear(1))
+
+    def test_a_table_grows_by_work(self):
+        with small() as table:
+            (seat,) = table.seats
+            self.assertEqual(seat.work(), Idle())
+            replies = [seat.bind(number, number) for number in range(4)]
+            self.assertEqual(replies, [Bound(False)] * 3 + [Bound(True)])
+            self.assertEqual(seat.work(), Moved(again=False))
+            self.assertEqual([seat.find(number) for number in range(5)], [0, 1, 2, 3, None])
+
+    def test_one_seat_works_at_a_time(self):
+        with small(callers=2) as table:
+            one, two = table.seats
+            begin(one, "rht_work_begin")
+            self.assertEqual(two.work(), Elsewhere())
+
+    def test_a_full_bucket_asks_for_work(self):
+        with rht.Table(low=True) as table:
+            (seat,) = table.seats
+            for number in range(16):
+                self.assertEqual(seat.bind(64 * number, 1, once=True), Bound(False))
+            self.assertEqual(seat.bind(64 * 16, 1, once=True), Again(1))
+            self.assertIsNone(seat.find(64 * 16))
+            for number in range(16, 32):
+                self.assertTrue(seat.bind(64 * number, 1))
+            self.assertEqual(seat.bind(64 * 32, 1), Busy(0, 1))
+            self.assertEqual(seat.work(), Moved(again=False))
+            self.assertEqual(seat.bind(64 * 32, 1), Bound(True))
+
+    def test_a_table_may_be_too_big(self):
+        with rht.Table(hint=3, max=7) as table:
+            (seat,) = table.seats
+            self.assertTrue(all(seat.bind(number, 1) for number in range(8)))
+            self.assertEqual(seat.bind(8, 1), TooBig(8))
+
+    def test_no_further_table_may_be_had(self):
+        with rht.Table(pages=4, min=256, low=True) as table:
+            (seat,) = table.seats
+            self.assertTrue(all(seat.bind(number, 1) for number in range(257)))
+            self.assertEqual(seat.bind(257, 1), NoTable(512))
+            self.assertEqual(seat.work(), NoTable(512))
+
+    def test_replies_of_two_kinds_are_never_equal(self):
+        self.assertNotEqual(Bound(True), Moved(True))
+        self.assertNotEqual(Idle(), Elsewhere())
+        true = [Bound(False), Released(False), Rebound(), Walked([], None), Moved(False), Clear(0)]
+        self.assertTrue(all(true))
+        self.assertFalse(any([Exists(1), TooBig(1), Busy(1, 1), NoTable(1), NoNode(), Again(1), Absent()]))
+        self.assertFalse(any([Idle(), Elsewhere(), Pending(1, 1)]))
+
+
+class Walks(unittest.TestCase):
+    """Walks, in pieces and as a whole."""
+
+    def test_a_walk_goes_on_in_pieces(self):
+        with small() as table:
+            (seat,) = table.seats
+            for number in (1, 2, 3):
+                seat.bind(number, 10 * number)
+            one, two, three = (Pair(Port(number), 10 * number) for number in (1, 2, 3))
+            self.assertEqual(seat.walk(limit=0), Walked([], Cursor(0, 1)))
+            self.assertEqual(seat.walk(Cursor(0, 1), 2), Walked([one, two], Cursor(0, 3)))
+            self.assertEqual(seat.walk(Cursor(0, 3)), Walked([three], None))
+            self.assertEqual(seat.walk(), Walked([one, two, three], None))
+            self.assertEqual(seat.walk(Cursor(0, 4)), Again(0))
+            self.assertEqual(seat.walk((9, 0)), Again(0))
+
+    def test_pairs_come_one_after_another(self):
+        with rht.Table() as table:
+            (seat,) = table.seats
+            for number in range(40):
+                self.assertTrue(seat.bind(Port(number, 3), number + 1))
+            with mock.patch.object(rht, "_PIECE", 5):
+                seen = {port.number: owner for port, owner in seat.pairs() if port.net == 3}
+            self.assertEqual(seen, {number: number + 1 for number in range(40)})
+            self.assertEqual(len(seat.pairs()), 40)
+
+    def test_pairs_begin_anew_behind_work(self):
+        with small() as table:
+            (seat,) = table.seats
+            for number in range(6):
+                self.assertTrue(seat.bind(number, 1))
+            self.assertEqual(seat.walk(), Again(1))
+            self.assertEqual(seat.walk(), Again(1))
+            self.assertEqual(sorted(port.number for port, _ in seat.pairs()), list(range(6)))
+            self.assertIsInstance(seat.walk(), Walked)
+
+    def test_pairs_are_tried_so_many_times(self):
+        with small() as table:
+            (seat,) = table.seats
+            self.assertRaises(rht.NotWhole, seat.pairs, 0)
+            for number in range(6):
+                seat.bind(number, 1)
+            self.assertRaises(rht.NotWhole, seat.pairs, 1)
+            self.assertEqual(len(seat.pairs(1)), 6)
+
+
+class WrongUses(unittest.TestCase):
+    """What a program should not do raises, and leaves the table as it was."""
+
+    def test_configs_are_refused(self):
+        wrong = [
+            {"callers": 0}, {"callers": 17}, {"callers": -1}, {"callers": 1 << 32}, {"nodes": 0}, {"nodes": 65537},
+            {"pages": 3}, {"pages": 4097}, {"hint": 65537}, {"min": 65537}, {"max": 3}, {"max": 131073},
+            {"min": 16, "max": 8}, {"rewalks": 256}, {"seed": -1}, {"pages": 4, "min": 512},
+        ]
+        for numbers in wrong:
+            with self.subTest(numbers), self.assertRaises(rht.BadConfig):
+                rht.Table(**numbers)
+        self.assertRaises(TypeError, rht.Table, nodes=1.5)
+        self.assertRaises(TypeError, rht.Table, noodles=1)
+
+    def test_configs_at_their_limits_are_opened(self):
+        most = {"nodes": 65536, "pages": 4096, "callers": 16, "hint": 65536, "min": 65536, "seed": 4294967295}
+        with rht.Table(max=131072, rewalks=255, shrink=True, **most) as table:
+            self.assertEqual((table.config.max, table.config.shrink, len(table.seats)), (131072, True, 16))
+        with rht.Table(nodes=1, pages=4, min=0, max=7, seed=0, rewalks=0) as table:
+            self.assertEqual((table.config.min, table.config.max, table.config.listed), (4, 4, False))
+
+    def test_numbers_out_of_range_are_refused(self):
+        with rht.Table() as table:
+            (seat,) = table.seats
+            for port in (-1, 1 << 32, Port(0, -1), Port(0, 1 << 16), Port(1 << 32, 0), (1, 2, 3)):
+                with self.subTest(port=port), self.assertRaises(ValueError):
+                    seat.find(port)
+            for owner in (-1, 1 << 32):
+                self.assertRaises(ValueError, seat.bind, 1, owner)
+                self.assertRaises(ValueError, seat.release, 1, owner)
+                self.assertRaises(ValueError, seat.rebind, 1, 1, owner)
+                self.assertRaises(ValueError, seat.walk, None, owner)
+            self.assertRaises(ValueError, seat.walk, Cursor(-1, 0))
+            self.assertRaises(ValueError, seat.walk, Cursor(0, 1 << 32))
+            for port in ("80", 80.0, None, [80, 0], ("80", 0)):
+                with self.subTest(port=port), self.assertRaises(TypeError):
+                    seat.find(port)
+            self.assertEqual(seat.count(), 0)
+
+    def test_a_closed_seat_stays_closed(self):
+        table = rht.Table(callers=2)
+        one, two = table.seats
+        one.close()
+        one.close()
+        calls = [
+            lambda: one.find(1), lambda: one.bind(1, 1), lambda: one.release(1, 1), lambda: one.rebind(1, 1, 1),
+            lambda: one.all(1), one.walk, one.pairs, one.count, one.tidy, one.work,
+        ]
+        for call in calls:
+            self.assertRaises(rht.SeatClosed, call)
+        self.assertTrue(two.bind(1, 1))
+        table.close()
+        self.assertRaises(rht.SeatClosed, two.count)
+        table.close()
+
+    def test_a_seat_is_not_copied(self):
+        with rht.Table() as table:
+            (seat,) = table.seats
+            self.assertRaises(TypeError, copy.copy, seat)
+            self.assertRaises(TypeError, copy.deepcopy, seat)
+            self.assertRaises(TypeError, pickle.dumps, seat)
+            self.assertRaises(TypeError, pickle.dumps, table)
+
+    def test_seats_close_behind_an_exception(self):
+        with self.assertRaises(KeyError):
+            with rht.Table(callers=3) as table:
+                raise KeyError
+        for seat in table.seats:
+            self.assertRaises(rht.SeatClosed, seat.count)
+
+    def test_a_call_that_is_broken_off_is_finished(self):
+        with rht.Table(callers=2) as table:
+            seat, other = table.seats
+            with mock.patch.object(rht, "_OPERATIONS", 1), mock.patch("rht.time.sleep", side_effect=KeyboardInterrupt):
+                self.assertRaises(KeyboardInterrupt, seat.bind, 80, 100)
+            self.assertEqual(seat.find(80), 100)
+            begin_bind(seat, 81, 101)
+            self.assertEqual(seat.bind(82, 102), Bound(False))
+            self.assertEqual(seat.count(), 3)
+            begin_bind(seat, 83, 103)
+            seat.close()
+            self.assertEqual(other.find(83), 103)
+
+    def test_a_seat_that_nobody_has_is_closed(self):
+        seats = list(rht.Table(callers=2).seats)
+        at = seats[0]._handle
+        begin_bind(seats[1], 80, 100)
+        del seats[0]
+        self.assertFalse(at.in_use)
+        at = seats[0]._handle
+        del seats[0]
+        self.assertTrue(at.in_use, "a call of it is in progress")
+        rht._lib.rht_go_on(at, 1 << 20, rht._Reply())
+        self.assertEqual(rht._lib.rht_close(at), rht._CLOSED)
+
+    def test_an_unknown_code_is_told(self):
+        with rht.Table() as table:
+            (seat,) = table.seats
+            for name, call in [
+                ("rht_find", lambda: seat.find(1)), ("rht_bind_begin", lambda: seat.bind(1, 1)),
+                ("rht_all_begin", lambda: seat.all(1)), ("rht_walk", seat.walk), ("rht_tidy", seat.tidy),
+                ("rht_count", seat.count), ("rht_close", seat.close), ("rht_open", rht.Table),
+            ]:
+                with mock.patch.object(rht._lib, name, return_value=99), self.assertRaises(rht.Misfit) as raised:
+                    call()
+                self.assertEqual(raised.exception.code, 99)
+
+
+class Threads(unittest.TestCase):
+    """Threads that share a table, and one seat in two of them."""
+
+    def run_all(self, table, run):
+        """Runs the same with each seat in a thread of its own, and raises what one raises."""
+        errors = []
+
+        def guarded(seat):
+            try:
+                run(seat)
+            except BaseException as error:
+                errors.append(error)
+
+        threads = [threading.Thread(target=guarded, args=(seat,)) for seat in table.seats]
+        for thread in threads:
+            thread.start()
+        for thread in threads:
+            thread.join()
+        if errors:
+            raise errors[0]
+
+    def bind(self, seat, port, owner):
+        """Binds a free port, whatever has to be done before."""
+        while True:
+            reply = seat.bind(port, owner)
+            if isinstance(reply, NoNode):
+                seat.tidy()
+            elif isinstance(reply, (Busy, NoTable)) or reply == Bound(True):
+                while seat.work() == Moved(again=True):
+                    pass
+            if reply:
+                return
+            self.assertIsInstance(reply, (NoNode, Busy, NoTable))
+
+    def test_ranges_of_their_own(self):
+        def run(seat):
+            mine = [Port(1000 * seat.caller + number, 5) for number in range(100)]
+            for _ in range(2):
+                for port in mine:
+                    self.bind(seat, port, seat.caller)
+                    self.assertEqual(seat.find(port), seat.caller)
+                self.assertEqual(seat.find(1), 7)
+                for port in mine[10:]:
+                    self.assertEqual(seat.find(port), seat.caller)
+                    self.assertTrue(seat.release(port, seat.caller))
+                for port in mine[:10]:
+                    self.assertTrue(seat.release(port, seat.caller))
+                seat.tidy()
+            self.bind(seat, mine[0], 9)
+
+        with rht.Table(callers=4, hint=3, shrink=True) as table:
+            table.seats[0].bind(1, 7)
+            self.run_all(table, run)
+            left = [Pair(Port(1), 7)] + [Pair(Port(1000 * caller, 5), 9) for caller in range(4)]
+            self.assertEqual(sorted(table.seats[2].pairs()), sorted(left))
+            self.assertEqual(table.seats[1].count(), 5)
+
+    def test_each_rebind_succeeds_once(self):
+        made = []
+
+        def run(seat):
+            # A rebind that fails has met one that succeeded since the look-up, so 300 of them fail at most.
+            for _ in range(601):
+                owner = seat.find(1)
+                if owner == 300:
+                    return
+                if seat.rebind(1, owner, owner + 1):
+                    made.append(owner)
+                seat.tidy()
+            self.fail("it goes on and on")
+
+        with rht.Table(callers=4) as table:
+            table.seats[0].bind(1, 0)
+            self.run_all(table, run)
+            self.assertEqual(sorted(made), list(range(300)))
+
+    def test_a_second_thread_is_refused(self):
+        yields, go_on = threading.Event(), threading.Event()
+
+        def yielding(_):
+            yields.set()
+            go_on.wait(10)
+
+        with rht.Table(callers=2) as table:
+            seat, other = table.seats
+            replies = []
+            with mock.patch.object(rht, "_OPERATIONS", 1), mock.patch("rht.time.sleep", yielding):
+                thread = threading.Thread(target=lambda: replies.append(seat.bind(80, 100)))
+                thread.start()
+                self.assertTrue(yields.wait(10))
+                self.assertRaises(rht.SeatInUse, seat.find, 80)
+                self.assertRaises(rht.SeatInUse, seat.close)
+                self.assertIsNone(other.find(81))
+                self.assertRaises(rht.SeatInUse, table.close)
+                self.assertRaises(rht.SeatClosed, other.count)
+                go_on.set()
+                thread.join()
+            self.assertEqual(replies, [Bound(False)])
+            self.assertEqual(seat.find(80), 100)
+
+    def test_a_call_within_a_call_is_refused(self):
+        with rht.Table() as table:
+            (seat,) = table.seats
+            with mock.patch.object(rht, "_OPERATIONS", 1), mock.patch("rht.time.sleep", lambda _: seat.count()):
+                self.assertRaises(rht.SeatInUse, seat.bind, 80, 100)
+            self.assertEqual(seat.count(), 1)
+
+
+@unittest.skipUnless(hasattr(os, "fork"), "no fork here")
+class Forks(unittest.TestCase):
+    """Behind a fork the child's seats are dead, and the parent's go on."""
+
+    def in_child(self, run):
+        """Runs in a fork, and says whether it came to an end there."""
+        child = os.fork()
+        if child == 0:
+            status = 1
+            try:
+                run()
+                status = 0
+            finally:
+                os._exit(status)
+        return os.waitpid(child, 0)[1] == 0
+
+    def test_seats_are_dead_in_the_child(self):
+        with rht.Table(callers=2) as table:
+            seat, other = table.seats
+            seat.bind(80, 100)
+            begin_bind(other, 81, 101)
+
+            def run():
+                self.assertRaises(rht.Forked, seat.find, 80)
+                self.assertRaises(rht.Forked, seat.pairs)
+                self.assertRaises(rht.Forked, other.work)
+                seat.close()
+                seat.__del__()
+                table.close()
+                self.assertTrue(seat._handle.in_use)
+
+            self.assertTrue(self.in_child(run))
+            self.assertEqual(seat.find(80), 100)
+            self.assertEqual(other.find(81), 101)
+
+    def test_a_seat_in_use_is_dead_too(self):
+        with rht.Table() as table:
+            (seat,) = table.seats
+            with seat._lock:
+                self.assertTrue(self.in_child(lambda: self.assertRaises(rht.Forked, seat.count)))
+                self.assertTrue(self.in_child(table.close))
+
+    def test_the_child_opens_a_table_of_its_own(self):
+        def run():
+            with rht.Table() as table:
+                self.assertTrue(table.seats[0].bind(80, 100))
+
+        self.assertTrue(self.in_child(run))
+
+
+class Header(unittest.TestCase):
+    """The module against embed/include/rht.h."""
+
+    INCLUDE = os.path.join(HERE, os.pardir, "include")
+    STRUCTS = {
+        "rht_port": rht._Port, "rht_pair": rht._Pair, "rht_cursor": rht._Cursor, "rht_config": rht._Config,
+        "rht_reply": rht._Reply, "rht_handle": rht._Handle,
+    }
+
+    def text(self):
+        with open(os.path.join(self.INCLUDE, "rht.h")) as file:
+            return file.read()
+
+    def test_codes(self):
+        codes = dict(re.findall(r"^ *RHT_(\w+) = (\d+)", self.text(), re.M))
+        self.assertEqual(len(codes), 31)
+        for name, code in codes.items():
+            here = getattr(rht, "_" + name, None)
+            if name in ("NO_CALL", "NO_STEPS", "BAD_COUNT", "STILL_OPEN"):
+                self.assertIsNone(here, "%s can't come here" % name)
+            else:
+                self.assertEqual(here, int(code), name)
+
+    def in_c(self, kind):
+        """The C type of one of ctypes, without spaces."""
+        if kind is None:
+            return "void"
+        if hasattr(kind, "contents"):
+            return self.in_c(kind._type_) + "*"
+        plain = {ctypes.c_uint32: "uint32_t", ctypes.c_size_t: "size_t"}
+        return plain.get(kind) or next(name for name, struct in self.STRUCTS.items() if struct is kind)
+
+    def test_functions(self):
+        there = {}
+        for result, name, arguments in re.findall(r"^(\w+) (rht_\w+)\(([^)]*)\);", self.text(), re.M):
+            kinds = [re.sub(r"\w+$", "", argument).replace(" ", "") for argument in arguments.split(",")]
+            there[name] = (result, kinds)
+        here = {
+            name: (self.in_c(result), [self.in_c(kind) for kind in arguments])
+            for name, (result, arguments) in rht._FUNCTIONS.items()
+        }
+        self.assertEqual(len(there), 16)
+        self.assertEqual(there, here)
+
+    @unittest.skipUnless(shutil.which("cc"), "no C compiler here")
+    def test_layout(self):
+        asked, here = [], []
+        for name, struct in self.STRUCTS.items():
+            asked.append("sizeof(%s)" % name)
+            here.append(ctypes.sizeof(struct))
+            for field, kind in struct._fields_:
+                asked += ["offsetof(%s, %s)" % (name, field), "sizeof(((%s *)0)->%s)" % (name, field)]
+                here += [getattr(struct, field).offset, ctypes.sizeof(kind)]
+        lines = "\n".join('    printf("%%zu\\n", %s);' % what for what in asked)
+        with tempfile.TemporaryDirectory() as folder:
+            source, program = os.path.join(folder, "layout.c"), os.path.join(folder, "layout")
+            with open(source, "w") as file:
+                file.write('#include <stdio.h>\n#include "rht.h"\nint main(void)\n{\n%s\n    return 0;\n}\n' % lines)
+            subprocess.run(["cc", "-I", self.INCLUDE, "-o", program, source], check=True)
+            there = subprocess.run([program], check=True, stdout=subprocess.PIPE).stdout
+        self.assertEqual([int(number) for number in there.split()], here)
+
+    def test_a_folder_without_the_library_is_told(self):
+        with tempfile.TemporaryDirectory() as folder:
+            env = dict(os.environ, RHT_LIB=folder)
+            run = subprocess.run([sys.executable, "-c", "import rht"], cwd=HERE, env=env, stderr=subprocess.PIPE)
+        self.assertEqual(run.returncode, 1)
+        self.assertIn(b"ImportError: rht: run embed/build, or set RHT_LIB", run.stderr)
+
+
+class Example(unittest.TestCase):
+    """The example beside this file."""
+
+    def test_it_runs(self):
+        run = subprocess.run([sys.executable, os.path.join(HERE, "example.py")], check=True, stdout=subprocess.PIPE)
+        lines = sorted(run.stdout.decode().splitlines())
+        self.assertEqual(len(lines), 5)
+        for me, line in enumerate(lines[1:]):
+            self.assertEqual(line, "thread %d: its neighbour is %d" % (me, (me + 1) % 4))
+        self.assertEqual(lines[0], "800 ports are bound")
+
+
+if __name__ == "__main__":
+    unittest.main()
