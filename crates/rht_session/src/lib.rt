@@ -18,6 +18,8 @@ mod refused;
 mod session;
 mod shared;
 mod telling;
+#[cfg(test)]
+mod tests;
 
 pub use handle::Handle;
 pub use plain::{CConfig, CCursor, CPair, CPort, CReply};
