@@ -10,6 +10,7 @@
 mod address;
 pub mod codes;
 mod handle;
+pub mod laws;
 mod lists;
 mod opening;
 mod parts;
