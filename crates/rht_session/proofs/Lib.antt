@@ -14,5 +14,7 @@ pub mod OneSession
 pub mod FitHandles
 -- a room that is written place by place
 pub mod ShownLists
+-- what was told, read back
+pub mod ToldApart
 -- what a call on a handle leaves
 pub mod HandleCalls

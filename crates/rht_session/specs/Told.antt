@@ -112,3 +112,14 @@ owner_told _ before = before
 abbrev pub IsToldFound : Result Reply Refused → ℕ → ℕ → ℕ → Type 0
 IsToldFound (Ok reply) code before after = (code ≡ code_of reply) × (after ≡ owner_told reply before)
 IsToldFound (Err refused) code before after = (code ≡ refusal_code refused) × (after ≡ before)
+
+-- ---- what tells answers apart
+
+-- two answers that C is told by one code and by the same numbers are the same
+abbrev pub TellsApart : Type 0
+TellsApart = (one other : Result (Option Reply) Refused) (code : ℕ) (before after : CReply)
+    → IsTold one code before after → IsTold other code before after → one ≡ other
+
+abbrev pub TellsWholeApart : Type 0
+TellsWholeApart = (one other : Result Reply Refused) (code : ℕ) (before after : CReply)
+    → IsToldWhole one code before after → IsToldWhole other code before after → one ≡ other

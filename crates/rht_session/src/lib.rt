@@ -10,6 +10,7 @@
 mod address;
 pub mod codes;
 mod handle;
+pub mod laws;
 mod lists;
 mod opening;
 mod parts;
@@ -18,6 +19,8 @@ mod refused;
 mod session;
 mod shared;
 mod telling;
+#[cfg(test)]
+mod tests;
 
 pub use handle::Handle;
 pub use plain::{CConfig, CCursor, CPair, CPort, CReply};
