@@ -1,26 +1,28 @@
 -- What the closing of several handles together leaves, and when it is refused.
-use Rattle.std.specs.Prelude.{◌≡◌, ℕ, ◌≤◌, ◌⊎◌, true, false, Option, List, [], ◌∷◌, length, map, concat, vec_capacity}
+use Rattle.std.specs.Prelude.{◌≡◌, ℕ, ◌<◌, ◌≤◌, ◌⊎◌, true, false, Option, IfSome, List, [], ◌∷◌, length, map, vec_capacity}
 use Rattle.std.specs.List.{AllByRecursion, list_all}
-use Rattle.std.specs.Box.{box_value}
 use Rattle.rht_policy.specs.declared.mix.Lookup3.{Lookup3}
 use Rattle.rht_policy.specs.declared.mix.Low.{Low}
 use Rattle.rht_policy.specs.Mix.{final_mix, low_mix}
 use Rattle.rht_model.specs.declared.bindings.Closed.{Closed}
 use Rattle.rht_run.specs.declared.table.Table.{Table}
-use Rattle.rht_run.specs.declared.pass.Pass.{Pass}
+use Rattle.rht_run.specs.declared.closing.ClosingSpace.{ClosingSpace}
 use Rattle.rht_run.specs.Passes.{IsClosedWith}
+use Rattle.rht_run.specs.ClosingSpaces.{IsSpaceFor}
 use Rattle.rht_session.specs.declared.shared.Shared.{Shared}
 use Rattle.rht_session.specs.declared.session.Session.{Session}
 use Rattle.rht_session.specs.declared.session.Session.TheVariants as sessions
 use Rattle.rht_session.specs.declared.handle.Handle.{Handle}
 use Rattle.rht_session.specs.declared.closing.NotClosed.{NotClosed}
 use Rattle.rht_session.specs.declared.closing.NotClosed.TheVariants as reasons
+use Rattle.rht_session.specs.declared.closing.Rooms.{Rooms}
+use Rattle.rht_session.specs.declared.closing.Rooms.TheVariants as rooms
 use Rattle.rht_session.specs.Sessions.{table_of, is_free}
-use Rattle.rht_session.specs.Handles.{sessions_of, is_blank}
+use Rattle.rht_session.specs.Handles.{sessions_of}
 
--- the sessions of these handles, in their order; of a blank one there is none
-abbrev pub all_sessions : List Handle → List Session
-all_sessions handles = concat (map sessions_of handles)
+-- these handles have these sessions, each its own, and none is blank
+abbrev pub HaveAll : List Handle → List Session → Type 0
+HaveAll handles all = map sessions_of handles ≡ map (λ session. session ∷ []) all
 
 -- two sessions share a table
 abbrev pub ShareATable : Session → Session → Type 0
@@ -29,12 +31,17 @@ ShareATable (sessions.Low one) (sessions.Low other) = table_of one ≡ table_of 
 ShareATable (sessions.Mix one) (sessions.Low other) = ⊥
 ShareATable (sessions.Low one) (sessions.Mix other) = ⊥
 
--- each of these shares its table with each
-abbrev pub AreOfOneTable : List Session → Type 0
-AreOfOneTable all = AllByRecursion (λ one. AllByRecursion (ShareATable one) all) all
+-- the first of these shares its table with each
+abbrev pub ShareOneTable : List Session → Type 0
+ShareOneTable [] = Unit {0}
+ShareOneTable (first ∷ others) = AllByRecursion (ShareATable first) others
 
--- the table that these share is closed: what is listed is what it says at the end of one run, in which the number of each of them has what
--- its pass has
+-- the sessions of these handles share one table, where none is blank
+abbrev pub AreOfOneTable : List Handle → Type 0
+AreOfOneTable handles = (all : List Session) → HaveAll handles all → ShareOneTable all
+
+-- The table that these share is closed. What is listed is what its words say at the end of one run, in which the number of each of them
+-- has what its pass has.
 pub record IsClosedOver {M : Type 0} (mix : ℕ → ℕ → ℕ → ℕ) (kind : Shared M → Session) (all : List Session) (closed : Closed) : Type 0 where
   pub table : Table M
   pub shared : List (Shared M)
@@ -46,12 +53,30 @@ pub record IsClosedOver {M : Type 0} (mix : ℕ → ℕ → ℕ → ℕ) (kind :
 abbrev pub AreClosedWith : List Session → Closed → Type 0
 AreClosedWith all closed = IsClosedOver final_mix sessions.Mix all closed ⊎ IsClosedOver low_mix sessions.Low all closed
 
--- each of these handles is open
-abbrev pub AreOpen : List Handle → Type 0
-AreOpen handles = (0 < length handles) × AllByRecursion (λ h. is_blank h ≡ false) handles
+-- these handles had sessions in no call; and where a table was closed with that, it is theirs
+abbrev pub HaveClosed : List Handle → Option Closed → Type 0
+HaveClosed handles closed =
+    (all : List Session) × HaveAll handles all × (list_all is_free all ≡ true) × IfSome closed (AreClosedWith all)
 
 -- why nothing was closed: the first reason that there is
 abbrev pub IsWhyNotClosed : List Handle → NotClosed → Type 0
-IsWhyNotClosed handles reasons.NotOpen = ¬ AreOpen handles
-IsWhyNotClosed handles reasons.InCall = AreOpen handles × (list_all is_free (all_sessions handles) ≡ false)
-IsWhyNotClosed handles reasons.Memory = AreOpen handles × (list_all is_free (all_sessions handles) ≡ true)
+IsWhyNotClosed handles reasons.NotOpen = (all : List Session) → HaveAll handles all → 0 < length all → ⊥
+IsWhyNotClosed handles reasons.InCall = (all : List Session) × HaveAll handles all × (list_all is_free all ≡ false)
+IsWhyNotClosed handles reasons.Memory = (all : List Session) × HaveAll handles all × (list_all is_free all ≡ true)
+
+-- why sessions were kept
+abbrev pub IsWhyKept : List Session → NotClosed → Type 0
+IsWhyKept all reasons.NotOpen = ⊥
+IsWhyKept all reasons.InCall = list_all is_free all ≡ false
+IsWhyKept all reasons.Memory = list_all is_free all ≡ true
+
+-- there is a place for the pass of each of these sessions, and space for the closing of the first one's table
+abbrev pub AreRoomsFor : List Session → Rooms → Type 0
+AreRoomsFor all (rooms.Mix passes space) =
+    (passes.items ≡ []) × (length all ≤ vec_capacity passes)
+    × (first : Shared Lookup3) × (others : List Session) × (all ≡ sessions.Mix first ∷ others)
+    × IsSpaceFor (table_of first).env.geometry space
+AreRoomsFor all (rooms.Low passes space) =
+    (passes.items ≡ []) × (length all ≤ vec_capacity passes)
+    × (first : Shared Low) × (others : List Session) × (all ≡ sessions.Low first ∷ others)
+    × IsSpaceFor (table_of first).env.geometry space

@@ -8,6 +8,7 @@
 #![tactic(auto)]
 
 mod address;
+mod closing;
 pub mod codes;
 mod handle;
 pub mod laws;
@@ -22,6 +23,7 @@ mod telling;
 #[cfg(test)]
 mod tests;
 
+pub use closing::NotClosed;
 pub use handle::Handle;
 pub use plain::{CConfig, CCursor, CPair, CPort, CReply};
 pub use refused::{NotOpened, Refused};
