@@ -12,7 +12,7 @@ use Rattle.rht_session.specs.Told.{code_of, refusal_code, fields_of, IsTold, IsT
 -- ---- reading what was told
 
 -- the reply of this code, which is one of 1 to 20, with these numbers
-reply_read : ℕ → CReply → Reply
+abbrev reply_read : ℕ → CReply → Reply
 reply_read code f =
     if nat_eq code 1 then Bound f.kick
     else if nat_eq code 2 then Exists f.owner
@@ -35,17 +35,17 @@ reply_read code f =
     else if nat_eq code 19 then Clear f.returned
     else Counted f.count
 
-refusal_read : ℕ → Refused
+abbrev refusal_read : ℕ → Refused
 refusal_read code =
     if nat_eq code 64 then NotOpen
     else if nat_eq code 65 then InCall
     else if nat_eq code 66 then NoCall
     else NoSteps
 
-whole_read : ℕ → CReply → Result Reply Refused
+abbrev whole_read : ℕ → CReply → Result Reply Refused
 whole_read code f = if nat_le code 20 then Ok (reply_read code f) else Err (refusal_read code)
 
-answer_read : ℕ → CReply → Result (Option Reply) Refused
+abbrev answer_read : ℕ → CReply → Result (Option Reply) Refused
 answer_read code f =
     if nat_eq code 0 then Ok None
     else if nat_le code 20 then Ok (Some (reply_read code f)) else Err (refusal_read code)
