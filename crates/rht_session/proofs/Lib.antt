@@ -14,6 +14,8 @@ pub mod OneSession
 pub mod FitHandles
 -- a room that is written place by place
 pub mod ShownLists
+-- handles whose sessions are taken out, and put back
+pub mod TakenHandles
 -- what was told, read back
 pub mod ToldApart
 -- what a call on a handle leaves

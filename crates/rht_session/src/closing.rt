@@ -12,6 +12,8 @@ ghost use Rattle.rht_run.specs.ClosingSpaces.{IsSpaceFor};
 ghost use Rattle.rht_session.specs.declared.session.Session.{Session as SessionOf};
 ghost use Rattle.rht_session.specs.declared.session.Session.TheVariants as sessions;
 ghost use Rattle.rht_session.specs.Sessions.{IsFit, is_free};
+ghost use Rattle.rht_session.specs.Held.{is_some};
+ghost use Rattle.rht_session.specs.declared.closing.Rooms.TheVariants as rooms;
 ghost use Rattle.rht_session.specs.Handles.{sessions_of, is_blank, IsFitHandle};
 ghost use Rattle.rht_session.specs.Closings.{HaveAll, ShareOneTable, AreOfOneTable, IsClosedOver, AreClosedWith, HaveClosed, IsWhyNotClosed, IsWhyKept, AreRoomsFor};
 
@@ -143,7 +145,7 @@ fn closed(alloc: Global, sessions: Vec<Box<Session>>) -> Result<Option<Closed>, 
 
 /// Whether all of these are in no call.
 fn are_free(sessions: &[Box<Session>]) -> bool
-    ensures { result ≡ list_all is_free (map (λ b. b.value) sessions.now) }
+    ensures { result ≡ list_all (λ b. is_free b.value) sessions.now }
 {
     sessions.iter().all(|session| session.is_free())
 }

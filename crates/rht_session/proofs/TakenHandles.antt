@@ -1,0 +1,96 @@
+-- Handles whose sessions are taken out one after another, and put back from the last one on.
+use Rattle.std.proofs.Common.{◌≡◌, ℕ, ◌+◌, ◌<◌, ◌≤◌, zero, suc, Bool, true, false, not, ◌&&◌, List, [], ◌∷◌, ◌++◌, length, map, take, drop, get_or, set, length-set, refl, sym, ap, ◌∙◌, subst, arith}
+use Rattle.std.proofs.lemmas.List.{take_more, take_more_set, drop_more, drop-set, drop-set-lt, map_push}
+use Rattle.std.specs.List.{list_all}
+use Rattle.rht_session.specs.declared.session.Session.{Session}
+use Rattle.rht_session.specs.declared.handle.Handle.{Handle}
+use Rattle.rht_session.specs.Held.{is_some}
+use Rattle.rht_session.specs.Handles.{sessions_of, is_blank, IsBlank, Holds}
+use Rattle.rht_session.specs.Closings.{HaveAll}
+
+-- ---- a test of all, with one more
+
+both_true : (a b : Bool) → (a && b) ≡ true → (a ≡ true) × (b ≡ true)
+both_true true b e = (refl, e)
+both_true false b e = absurd (cc)
+
+module _ {A : Type 0} (test : A → Bool) where
+  all_push : (items : List A) (item : A) → list_all test items ≡ true → test item ≡ true → list_all test (items ++ item ∷ []) ≡ true
+  all_push [] item all is = ap (λ b. b && true) is
+  all_push (first ∷ items) item all is =
+      let both = both_true (test first) (list_all test items) all in
+      subst (λ (b : Bool). (b && list_all test (items ++ item ∷ [])) ≡ true) (sym both.0) (all_push items item both.1 is)
+
+  pub all_at : (items : List A) (place : ℕ) (default : A) → list_all test items ≡ true → place < length items
+      → test (get_or items place default) ≡ true
+  all_at [] place default all below = absurd (omega (arith, below))
+  all_at (first ∷ items) zero default all below = (both_true (test first) (list_all test items) all).0
+  all_at (first ∷ items) (suc place) default all below =
+      all_at items place default (both_true (test first) (list_all test items) all).1 (omega (arith, below))
+
+-- ---- sessions of handles, with one more
+
+have_push : (handles : List Handle) (all : List Session) (handle : Handle) (session : Session) → HaveAll handles all → Holds handle session
+    → HaveAll (handles ++ handle ∷ []) (all ++ session ∷ [])
+have_push handles all handle session have has =
+    map_push sessions_of handles handle ∙ ap (λ l. l ++ sessions_of handle ∷ []) have
+    ∙ ap (λ s. map (λ (one : Session). one ∷ []) all ++ s ∷ []) has ∙ sym (map_push (λ (one : Session). one ∷ []) all session)
+
+-- ---- taking them out
+
+-- what the handles before this place had is taken, and they are blank; the others are as they were
+pub record AreTaken (old now : List Handle) (place : ℕ) (taken : List Session) : Type 0 where
+  pub taken_is : HaveAll (take place old) taken
+  pub blank : list_all is_blank (take place now) ≡ true
+  pub rest : drop place now ≡ drop place old
+  pub count : length now ≡ length old
+
+module _ (old now : List Handle) (place : ℕ) (taken : List Session) (are : AreTaken old now place taken) (below : place < length old)
+    (handle : Handle) (here : handle ≡ get_or now place handle) where
+  -- the handle at this place is the one that was there
+  was : get_or old place handle ≡ handle
+  was =
+      let count = are.count in
+      let both : get_or now place handle ∷ drop (place + 1) now ≡ get_or old place handle ∷ drop (place + 1) old =
+      sym (drop_more now place handle (omega (arith, below, count))) ∙ are.rest ∙ drop_more old place handle below in
+      let heads : get_or now place handle ≡ get_or old place handle = cc in
+      sym (here ∙ heads)
+
+  behind : drop (place + 1) now ≡ drop (place + 1) old
+  behind =
+      let count = are.count in
+      let both : get_or now place handle ∷ drop (place + 1) now ≡ get_or old place handle ∷ drop (place + 1) old =
+      sym (drop_more now place handle (omega (arith, below, count))) ∙ are.rest ∙ drop_more old place handle below in
+      cc
+
+  -- with the one at this place
+  pub one_taken : (after : Handle) (session : Session) → IsBlank after → Holds handle session
+      → AreTaken old (set now place after) (place + 1) (taken ++ session ∷ [])
+  one_taken after session blank has =
+      let count = are.count in
+      let below_now : place < length now = omega (arith, below, count) in
+      record {
+        taken_is = subst (λ (l : List Handle). HaveAll l (taken ++ session ∷ []))
+            (sym (take_more old place handle below ∙ ap (λ (h : Handle). take place old ++ h ∷ []) was))
+            (have_push (take place old) taken handle session are.taken_is has);
+        blank = subst (λ (l : List Handle). list_all is_blank l ≡ true) (sym (take_more_set now place after below_now))
+            (all_push is_blank (take place now) after are.blank (ap (λ (l : List Session). not (is_some l)) blank));
+        rest = drop-set-lt (place + 1) now place after (omega arith) ∙ behind;
+        count = length-set now place after ∙ count;
+      }
+
+  -- if all of them were open, there is one
+  pub is_open : list_all (λ (h : Handle). is_some (sessions_of h)) old ≡ true → is_some (sessions_of handle) ≡ true
+  is_open all = subst (λ (h : Handle). is_some (sessions_of h) ≡ true) was (all_at (λ h. is_some (sessions_of h)) old place handle all below)
+
+-- ---- putting them back
+
+-- the sessions from this place on are in their handles
+pub put_one : (handles : List Handle) (all : List Session) (place : ℕ) (after : Handle) (session default : Session)
+    → HaveAll (drop (place + 1) handles) (drop (place + 1) all) → place < length handles → place < length all → get_or all place default ≡ session
+    → Holds after session → HaveAll (drop place (set handles place after)) (drop place all)
+put_one handles all place after session default have below within is has =
+    ap (map sessions_of) (drop-set handles place after below)
+    ∙ ap (λ l. sessions_of after ∷ l) have
+    ∙ ap (λ s. s ∷ map (λ (one : Session). one ∷ []) (drop (place + 1) all)) (has ∙ ap (λ (s : Session). s ∷ []) (sym is))
+    ∙ ap (map (λ (one : Session). one ∷ [])) (sym (drop_more all place default within))
