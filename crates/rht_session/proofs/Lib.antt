@@ -16,6 +16,8 @@ pub mod FitHandles
 pub mod ShownLists
 -- handles whose sessions are taken out, and put back
 pub mod TakenHandles
+-- sessions of one table, whose passes are gathered
+pub mod ClosedSessions
 -- what was told, read back
 pub mod ToldApart
 -- what a call on a handle leaves

@@ -10,7 +10,7 @@ ghost use Rattle.rht_run.specs.declared.pass.Pass.{Pass as PassOf};
 ghost use Rattle.rht_run.specs.Passes.{Among, IsPassOf, IsClosedWith};
 ghost use Rattle.rht_run.specs.ClosingSpaces.{IsSpaceFor};
 ghost use Rattle.rht_session.specs.declared.session.Session.{Session as SessionOf};
-ghost use Rattle.rht_session.specs.declared.session.Session.TheVariants as sessions;
+ghost use Rattle.rht_session.specs.declared.session.Session.TheVariants as kinds;
 ghost use Rattle.rht_session.specs.Sessions.{IsFit, is_free};
 ghost use Rattle.rht_session.specs.Held.{is_some};
 ghost use Rattle.rht_session.specs.declared.closing.Rooms.TheVariants as rooms;
@@ -133,7 +133,7 @@ fn closed(alloc: Global, sessions: Vec<Box<Session>>) -> Result<Option<Closed>, 
             why: NotClosed::InCall,
         });
     }
-    match rooms(alloc, &sessions) {
+    match rooms_for(alloc, &sessions) {
         Ok(Rooms::Mix(passes, space)) => Ok(mixed_closed(sessions, passes, space)),
         Ok(Rooms::Low(passes, space)) => Ok(low_closed(sessions, passes, space)),
         Err(_) => Err(Kept {
@@ -151,7 +151,7 @@ fn are_free(sessions: &[Box<Session>]) -> bool
 }
 
 /// The memory that the closing of these sessions needs: a place for each pass, and the table's space.
-fn rooms(alloc: Global, sessions: &[Box<Session>]) -> Result<Rooms, AllocError>
+fn rooms_for(alloc: Global, sessions: &[Box<Session>]) -> Result<Rooms, AllocError>
     requires { 0 < length sessions.now }
     ensures { IfOk result (AreRoomsFor (map (λ b. b.value) sessions.now)) }
 {
@@ -176,12 +176,12 @@ fn mixed_closed(
     requires fit { AllByRecursion IsFit (map (λ b. b.value) sessions.items) }
     requires one { ShareOneTable (map (λ b. b.value) sessions.items) }
     requires rooms { AreRoomsFor (map (λ b. b.value) sessions.items) (rooms.Mix passes space) }
-    ensures { IfSome result (IsClosedOver final_mix sessions.Mix (map (λ b. b.value) sessions.items)) }
+    ensures { IfSome result (IsClosedOver final_mix kinds.Mix (map (λ b. b.value) sessions.items)) }
 {
     let mut passes = passes;
     let mut table = None;
     for session in sessions {
-        if let Session::Mix(Shared { table: own, pass }) = *session {
+        if let Session::Mix(Shared { table: own, pass }) = Box::into_inner(session) {
             table = Some(own);
             passes.push_reserved(pass);
         }
@@ -198,12 +198,12 @@ fn low_closed(
     requires fit { AllByRecursion IsFit (map (λ b. b.value) sessions.items) }
     requires one { ShareOneTable (map (λ b. b.value) sessions.items) }
     requires rooms { AreRoomsFor (map (λ b. b.value) sessions.items) (rooms.Low passes space) }
-    ensures { IfSome result (IsClosedOver low_mix sessions.Low (map (λ b. b.value) sessions.items)) }
+    ensures { IfSome result (IsClosedOver low_mix kinds.Low (map (λ b. b.value) sessions.items)) }
 {
     let mut passes = passes;
     let mut table = None;
     for session in sessions {
-        if let Session::Low(Shared { table: own, pass }) = *session {
+        if let Session::Low(Shared { table: own, pass }) = Box::into_inner(session) {
             table = Some(own);
             passes.push_reserved(pass);
         }
