@@ -1,12 +1,15 @@
 -- Handles whose sessions are taken out one after another, and put back from the last one on.
-use Rattle.std.proofs.Common.{◌≡◌, ℕ, ◌+◌, ◌<◌, ◌≤◌, zero, suc, Bool, true, false, not, ◌&&◌, List, [], ◌∷◌, ◌++◌, length, map, take, drop, get_or, set, length-set, refl, sym, ap, ◌∙◌, subst, arith}
+use Rattle.std.proofs.Common.{◌≡◌, ℕ, ◌+◌, ◌<◌, ◌≤◌, zero, suc, ◌==◌, Bool, true, false, not, ◌&&◌, List, [], ◌∷◌, ◌++◌, length, map, take, drop, get_or, set, length-set, refl, sym, ap, ◌∙◌, subst, arith}
 use Rattle.std.proofs.lemmas.List.{take_more, take_more_set, drop_more, drop-set, drop-set-lt, map_push}
-use Rattle.std.specs.List.{list_all}
+use lib.Dec.{eqb-suc-zero}
+use Rattle.std.specs.List.{AllByRecursion, list_all}
 use Rattle.rht_session.specs.declared.session.Session.{Session}
 use Rattle.rht_session.specs.declared.handle.Handle.{Handle}
-use Rattle.rht_session.specs.Held.{is_some}
-use Rattle.rht_session.specs.Handles.{sessions_of, is_blank, IsBlank, Holds}
+use Rattle.rht_session.specs.Sessions.{IsFit}
+use Rattle.rht_session.specs.Held.{one_if, is_some}
+use Rattle.rht_session.specs.Handles.{sessions_of, is_blank, IsBlank, Holds, IsFitHandle}
 use Rattle.rht_session.specs.Closings.{HaveAll}
+use Rattle.rht_session.proofs.OneSession.{the_one, told_is_some}
 
 -- ---- a test of all, with one more
 
@@ -35,6 +38,46 @@ have_push : (handles : List Handle) (all : List Session) (handle : Handle) (sess
 have_push handles all handle session have has =
     map_push sessions_of handles handle ∙ ap (λ l. l ++ sessions_of handle ∷ []) have
     ∙ ap (λ s. map (λ (one : Session). one ∷ []) all ++ s ∷ []) has ∙ sym (map_push (λ (one : Session). one ∷ []) all session)
+
+-- where there is no handle there is no session
+pub none_have : (handles : List Handle) (all : List Session) → HaveAll handles all → true ≡ (length handles == 0) → 0 < length all → ⊥
+none_have [] [] have none some = omega (arith, some)
+none_have [] (session ∷ all) have none some = absurd cc
+none_have (handle ∷ handles) all have none some =
+    let no : true ≡ false = none ∙ eqb-suc-zero (length handles) in
+    absurd cc
+
+-- handles that have sessions are open; by induction over them
+pub have_open : (handles : List Handle) (all : List Session) → HaveAll handles all
+    → list_all (λ (h : Handle). is_some (sessions_of h)) handles ≡ true
+have_open [] all have = refl
+have_open (handle ∷ handles) [] have = absurd cc
+have_open (handle ∷ handles) (session ∷ all) have =
+    let here : sessions_of handle ≡ session ∷ [] = cc in
+    let behind : HaveAll handles all = cc in
+    ap (λ (l : List Session). is_some l && list_all (λ (h : Handle). is_some (sessions_of h)) handles) here ∙ have_open handles all behind
+
+-- and each session is fit where its handle is
+pub have_fit : (handles : List Handle) (all : List Session) → HaveAll handles all → AllByRecursion IsFitHandle handles
+    → AllByRecursion IsFit all
+have_fit [] [] have fit = tt
+have_fit [] (session ∷ all) have fit = absurd cc
+have_fit (handle ∷ handles) [] have fit = absurd cc
+have_fit (handle ∷ handles) (session ∷ all) have fit =
+    let here : sessions_of handle ≡ session ∷ [] = cc in
+    let behind : HaveAll handles all = cc in
+    ((subst (AllByRecursion IsFit) here fit.0).0, have_fit handles all behind fit.1)
+
+-- handles that are open have sessions
+pub open_have : (handles : List Handle) → list_all (λ (h : Handle). is_some (sessions_of h)) handles ≡ true
+    → (all : List Session) × HaveAll handles all
+open_have [] are = ([], refl)
+open_have (handle ∷ handles) are =
+    let both = both_true (is_some (sessions_of handle)) (list_all (λ (h : Handle). is_some (sessions_of h)) handles) are in
+    let in_use : handle.in_use ≡ true = told_is_some (sessions_of handle) handle.in_use handle.told ∙ both.0 in
+    let one = the_one (sessions_of handle) (handle.told ∙ ap one_if in_use) in
+    let others = open_have handles both.1 in
+    (one.0 ∷ others.0, ap (λ l. l ∷ map sessions_of handles) one.1 ∙ ap (λ l. (one.0 ∷ []) ∷ l) others.1)
 
 -- ---- taking them out
 

@@ -58,17 +58,17 @@ abbrev pub HaveClosed : List Handle → Option Closed → Type 0
 HaveClosed handles closed =
     (all : List Session) × HaveAll handles all × (list_all is_free all ≡ true) × IfSome closed (AreClosedWith all)
 
--- why nothing was closed: the first reason that there is
+-- why nothing was closed; memory may be refused before it is looked whether one of them is in a call
 abbrev pub IsWhyNotClosed : List Handle → NotClosed → Type 0
 IsWhyNotClosed handles reasons.NotOpen = (all : List Session) → HaveAll handles all → 0 < length all → ⊥
 IsWhyNotClosed handles reasons.InCall = (all : List Session) × HaveAll handles all × (list_all is_free all ≡ false)
-IsWhyNotClosed handles reasons.Memory = (all : List Session) × HaveAll handles all × (list_all is_free all ≡ true)
+IsWhyNotClosed handles reasons.Memory = (all : List Session) × HaveAll handles all
 
 -- why sessions were kept
 abbrev pub IsWhyKept : List Session → NotClosed → Type 0
 IsWhyKept all reasons.NotOpen = ⊥
 IsWhyKept all reasons.InCall = list_all is_free all ≡ false
-IsWhyKept all reasons.Memory = list_all is_free all ≡ true
+IsWhyKept all reasons.Memory = Unit {0}
 
 -- there is a place for the pass of each of these sessions, and space for the closing of the first one's table
 abbrev pub AreRoomsFor : List Session → Rooms → Type 0
