@@ -179,10 +179,10 @@ module _ {M : Type 0} (mix : ℕ → ℕ → ℕ → ℕ) (kind : Shared M → S
       pub closed_over : (found : Option Closed) → IfSome found (IsClosedWith mix (arc_value own).env passes)
           → IfSome found (IsClosedOver mix kind all)
       closed_over found has = if_some_else found (λ closed with. record {
-            table = is.t;
-            shared = is.are.shared;
-            all_are = is.are.all_are;
-            one = tables mix is.t is.are.shared is.are.of;
-            with = subst (λ (l : List (Pass M)). IsClosedWith mix is.t.env l closed) passes_are
-                (subst (λ (t : Table M). IsClosedWith mix t.env passes closed) is.own with);
-          }) has
+        table = is.t;
+        shared = is.are.shared;
+        all_are = is.are.all_are;
+        one = tables mix is.t is.are.shared is.are.of;
+        with = subst (λ (l : List (Pass M)). IsClosedWith mix is.t.env l closed) passes_are
+            (subst (λ (t : Table M). IsClosedWith mix t.env passes closed) is.own with);
+      }) has

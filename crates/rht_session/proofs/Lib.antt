@@ -18,6 +18,8 @@ pub mod ShownLists
 pub mod TakenHandles
 -- sessions of one table, whose passes are gathered
 pub mod ClosedSessions
+-- bindings that are written into a room
+pub mod WrittenBindings
 -- what was told, read back
 pub mod ToldApart
 -- what a call on a handle leaves

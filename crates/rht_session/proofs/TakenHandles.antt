@@ -68,6 +68,28 @@ have_fit (handle ∷ handles) (session ∷ all) have fit =
     let behind : HaveAll handles all = cc in
     ((subst (AllByRecursion IsFit) here fit.0).0, have_fit handles all behind fit.1)
 
+-- blank handles are fit
+no_session : (sessions : List Session) → not (is_some sessions) ≡ true → sessions ≡ []
+no_session [] none = refl
+no_session (session ∷ sessions) none = absurd cc
+
+pub all_blank_fit : (handles : List Handle) → list_all is_blank handles ≡ true → AllByRecursion IsFitHandle handles
+all_blank_fit [] blank = tt
+all_blank_fit (handle ∷ handles) blank =
+    let both = both_true (is_blank handle) (list_all is_blank handles) blank in
+    (subst (AllByRecursion IsFit) (sym (no_session (sessions_of handle) both.0)) tt, all_blank_fit handles both.1)
+
+-- and such as have the sessions of fit ones
+pub all_same_fit : (old new : List Handle) → map sessions_of new ≡ map sessions_of old → AllByRecursion IsFitHandle old
+    → AllByRecursion IsFitHandle new
+all_same_fit [] [] same fit = tt
+all_same_fit [] (handle ∷ new) same fit = absurd cc
+all_same_fit (handle ∷ old) [] same fit = tt
+all_same_fit (handle ∷ old) (other ∷ new) same fit =
+    let here : sessions_of other ≡ sessions_of handle = cc in
+    let behind : map sessions_of new ≡ map sessions_of old = cc in
+    (subst (AllByRecursion IsFit) (sym here) fit.0, all_same_fit old new behind fit.1)
+
 -- handles that are open have sessions
 pub open_have : (handles : List Handle) → list_all (λ (h : Handle). is_some (sessions_of h)) handles ≡ true
     → (all : List Session) × HaveAll handles all

@@ -60,6 +60,7 @@ impl Handle {
     pub fn close_all(alloc: Global, handles: &mut [Handle]) -> Result<Option<Closed>, NotClosed>
         requires fit { AllByRecursion IsFitHandle handles.old }
         requires one { AreOfOneTable handles.old }
+        ensures fit { AllByRecursion IsFitHandle handles.new }
         ensures blank { IfOk result (λ _. list_all is_blank handles.new ≡ true) }
         ensures closed { IfOk result (HaveClosed handles.old) }
         ensures same { IfErr result (λ _. map sessions_of handles.new ≡ map sessions_of handles.old) }

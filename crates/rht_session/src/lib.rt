@@ -25,8 +25,8 @@ mod tests;
 
 pub use closing::NotClosed;
 pub use handle::Handle;
-pub use plain::{CConfig, CCursor, CPair, CPort, CReply};
+pub use plain::{CClosed, CConfig, CCursor, CPair, CPort, CReply};
 pub use refused::{NotOpened, Refused};
 pub use session::Session;
 pub use shared::Shared;
-pub use telling::{told, told_closing, told_found, told_opening, told_whole};
+pub use telling::{told, told_closing, told_closing_all, told_found, told_opening, told_whole};

@@ -10,8 +10,7 @@ pub returns-in_ok-closing_space-in-Mix : goal.returns-in_ok-closing_space-in-Mix
 returns-in_ok-closing_space-in-Mix c =
     let boxes = c.args.sessions.now in
     let first = c.index-sessions-0.result in
-    let capacity = c.in_ok-with_capacity-in-Mix.ensures.capacity in
-    (
+    let capacity = c.in_ok-with_capacity-in-Mix.ensures.capacity in (
       c.in_ok-with_capacity-in-Mix.ensures.items,
       omega (arith, capacity, length-map boxes (λ b. b.value)),
       c.in-Mix.shared,
@@ -26,8 +25,7 @@ pub returns-in_ok-closing_space-in-Low : goal.returns-in_ok-closing_space-in-Low
 returns-in_ok-closing_space-in-Low c =
     let boxes = c.args.sessions.now in
     let first = c.index-sessions-0.result in
-    let capacity = c.in_ok-with_capacity-in-Low.ensures.capacity in
-    (
+    let capacity = c.in_ok-with_capacity-in-Low.ensures.capacity in (
       c.in_ok-with_capacity-in-Low.ensures.items,
       omega (arith, capacity, length-map boxes (λ b. b.value)),
       c.in-Low.shared,
