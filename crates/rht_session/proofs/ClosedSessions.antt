@@ -1,5 +1,5 @@
 -- Sessions of one table, whose passes are gathered one after another.
-use Rattle.std.proofs.Common.{◌≡◌, ℕ, zero, suc, ◌+◌, ◌<◌, ◌≤◌, ◌⊎◌, inl, inr, ⊎_elim, Bool, true, ◌&&◌, List, [], ◌∷◌, ◌++◌, length, map, take, drop, get_or, refl, sym, ap, ◌∙◌, subst, arith}
+use Rattle.std.proofs.Common.{◌≡◌, ℕ, zero, suc, ◌+◌, ◌<◌, ⊎_elim, Bool, ◌&&◌, List, [], ◌∷◌, ◌++◌, length, map, take, drop, get_or, refl, sym, ap, ◌∙◌, subst, arith}
 use Rattle.std.proofs.lemmas.List.{length-map, get_or-map, map_more, take_all}
 use Rattle.std.specs.Prelude.{Option, Some, None, IfSome}
 use Rattle.std.specs.List.{AllByRecursion, list_all}
@@ -18,7 +18,7 @@ use Rattle.rht_run.specs.ClosingSpaces.{IsSpaceFor}
 use Rattle.rht_session.specs.declared.shared.Shared.{Shared}
 use Rattle.rht_session.specs.declared.session.Session.{Session}
 use Rattle.rht_session.specs.declared.session.Session.TheVariants as sessions
-use Rattle.rht_session.specs.Sessions.{table_of, IsFit, is_free}
+use Rattle.rht_session.specs.Sessions.{table_of, IsFit}
 use Rattle.rht_session.specs.Closings.{ShareATable, ShareOneTable, IsClosedOver}
 
 -- ---- a list by its first item

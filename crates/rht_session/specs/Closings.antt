@@ -6,7 +6,6 @@ use Rattle.rht_policy.specs.declared.mix.Low.{Low}
 use Rattle.rht_policy.specs.Mix.{final_mix, low_mix}
 use Rattle.rht_model.specs.declared.bindings.Closed.{Closed}
 use Rattle.rht_run.specs.declared.table.Table.{Table}
-use Rattle.rht_run.specs.declared.closing.ClosingSpace.{ClosingSpace}
 use Rattle.rht_run.specs.Passes.{IsClosedWith}
 use Rattle.rht_run.specs.ClosingSpaces.{IsSpaceFor}
 use Rattle.rht_session.specs.declared.shared.Shared.{Shared}

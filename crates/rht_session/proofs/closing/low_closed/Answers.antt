@@ -1,4 +1,4 @@
-use Rattle.std.proofs.Common.{◌≡◌, ℕ, ◌+◌, ◌<◌, ◌≤◌, List, [], ◌∷◌, ◌++◌, length, map, get_or, refl, sym, ap, ◌∙◌, subst, arith}
+use Rattle.std.proofs.Common.{◌≡◌, ℕ, ◌+◌, ◌<◌, List, length, map, get_or, sym, ap, ◌∙◌, subst, arith}
 use Rattle.std.specs.Prelude.{Some}
 use Rattle.std.proofs.lemmas.List.{length-map, get_or-map, length_push}
 use Rattle.std.proofs.lemmas.Iterator.Adapters.{YieldsList-from_vec}
@@ -9,7 +9,7 @@ use Rattle.rht_run.specs.declared.pass.Pass.{Pass}
 use Rattle.rht_session.specs.declared.shared.Shared.{Shared}
 use Rattle.rht_session.specs.declared.session.Session.{Session}
 use Rattle.rht_session.specs.declared.session.Session.TheVariants as kinds
-use Rattle.rht_session.proofs.ClosedSessions.{IsGathered, low_of, gathers, kind_at, count, all_passes, space_is, closed_over}
+use Rattle.rht_session.proofs.ClosedSessions.{IsGathered, low_of, gathers, kind_at, all_passes, closed_over}
 use Rattle.rht_session.proofs.closing.low_closed.Goals as goal
 
 same_kind : (a b : Shared Low) → kinds.Low a ≡ kinds.Low b → a ≡ b

@@ -1,4 +1,4 @@
-use Rattle.std.proofs.Common.{◌≡◌, ◌≤◌, [], ◌∷◌, length, map, take, drop, vec_len}
+use Rattle.std.proofs.Common.{◌≡◌, ◌≤◌, length, map, take, drop, vec_len}
 use Rattle.rht_session.specs.Closings.{HaveAll}
 use Rattle.rht_session.proofs.closing.put_back.Given as goal
 

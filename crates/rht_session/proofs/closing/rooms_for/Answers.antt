@@ -1,8 +1,7 @@
-use Rattle.std.proofs.Common.{◌≡◌, ◌<◌, ◌≤◌, ◌∷◌, length, map, drop, sym, ap, ◌∙◌, subst, arith}
+use Rattle.std.proofs.Common.{◌∷◌, map, drop, sym, ap, ◌∙◌, subst, arith}
 use Rattle.std.proofs.lemmas.List.{length-map}
 use Rattle.rht_run.specs.declared.table.Table.{Table}
 use Rattle.rht_run.specs.ClosingSpaces.{IsSpaceFor}
-use Rattle.rht_session.specs.declared.session.Session.TheVariants as kinds
 use Rattle.rht_session.proofs.ClosedSessions.{first_of}
 use Rattle.rht_session.proofs.closing.rooms_for.Goals as goal
 

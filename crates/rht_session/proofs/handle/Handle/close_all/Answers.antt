@@ -1,7 +1,5 @@
-use Rattle.std.proofs.Common.{◌≡◌, ◌<◌, [], ◌∷◌, true, false, length, map, sym, ap, ◌∙◌, subst, arith}
-use Rattle.std.proofs.lemmas.List.{length-map}
+use Rattle.std.proofs.Common.{◌≡◌, [], ◌∷◌, true, false, map, sym, ap, ◌∙◌}
 use Rattle.rht_session.specs.declared.session.Session.{Session}
-use Rattle.rht_session.specs.Handles.{sessions_of}
 use Rattle.rht_session.proofs.TakenHandles.{none_have, have_open, have_fit, open_have, all_blank_fit, all_same_fit}
 use Rattle.rht_session.proofs.handle.Handle.close_all.Goals as goal
 use Rattle.rht_session.proofs.handle.Handle.close_all.Goals.{then-is_empty-via-then-is_empty, then-is_empty-via-else-is_empty+then-not-are_open}
