@@ -19,8 +19,9 @@
  *   - Nothing else in the program defines a name that begins with rht_ or rattle_. The processor is of x86-64-v2.
  *
  * A handle whose call is in progress may hold the lock of a bucket, be the one at work, and be in a section that
- * keeps nodes from coming back. Others then get RHT_NOT_YET, RHT_ELSEWHERE and RHT_PENDING, as long as it isn't
- * gone on with. So a thread that has begun a call on one handle goes on with it before it waits for another one.
+ * keeps nodes and tables from coming back. Others then get RHT_NOT_YET, RHT_ELSEWHERE and RHT_PENDING, and in the end
+ * RHT_NO_NODE and RHT_NO_TABLE, as long as it isn't gone on with. So a thread that has begun a call on one handle goes
+ * on with it before it waits for another one.
  *
  * Calls on one handle are made in their order. Of calls on different handles an order is proved to exist that
  * fits all replies; that it is the order of time isn't proved. */
@@ -128,8 +129,8 @@ typedef struct rht_reply {
     bool again;
 } rht_reply;
 
-/* A caller of a table, or nothing. Its fields are the library's. Each function writes to its handle, so handles of
- * different threads are best kept in cache lines of their own. */
+/* A caller of a table, or nothing. Its fields are the library's. Each function writes to its handle. So handles of
+ * different threads are best moved into cache lines of their own, once they are open. */
 typedef struct rht_handle {
     void *at;
     bool in_use;

@@ -49,7 +49,7 @@ struct Place(ffi::Handle);
 ///
 /// A call that panics since the archive doesn't fit leaves the seat as the archive left it.
 pub struct Seat {
-    // A box, so that the handle stays where it is when the seat is moved: a call may be in it that was forgotten.
+    // A box, so that to move a seat is to move a pointer, and not a whole cache line.
     place: Box<Place>,
     caller: u32,
     not_sync: PhantomData<Cell<()>>,
