@@ -426,6 +426,31 @@ static void has_no_table(struct test *t)
     close_table(t);
 }
 
+/* A call in progress holds back each table that is left meanwhile. These are seven, from 4 buckets to 256, beside the
+ * one of 512 that is in use. So there is no slot for a further one until that call has ended, and somebody works. */
+static void holds_tables_back(struct test *t)
+{
+    rht_handle *in = &t->handles[0], *h = &t->handles[1];
+    uint32_t number;
+    t->config.hint = 3;
+    open_table(t, 2);
+    ANSWERS(t, rht_all_begin(in, port(1), &t->reply), RHT_NOT_YET);
+    for (number = 0; number < 513; number++) {
+        ANSWERS(t, rht_bind(h, port(number), 7, &t->reply), RHT_BOUND);
+        if (t->reply.kick && number < 384)
+            REPLIES(t, rht_work(h, &t->reply), RHT_MOVED, {.again = false});
+    }
+    REPLIES(t, rht_work(h, &t->reply), RHT_NO_TABLE, {.size = 1024});
+    REPLIES(t, rht_bind(h, port(513), 7, &t->reply), RHT_NO_TABLE, {.size = 1024});
+    ANSWERS(t, rht_find(h, port(512), &t->owner), RHT_FOUND);
+    ANSWERS(t, rht_finish(in, RHT_NOT_YET, &t->reply), RHT_LISTED);
+    REPLIES(t, rht_bind(h, port(513), 7, &t->reply), RHT_NO_TABLE, {.size = 1024});
+    REPLIES(t, rht_work(h, &t->reply), RHT_MOVED, {.again = false});
+    ANSWERS(t, rht_bind(h, port(513), 7, &t->reply), RHT_BOUND);
+    REPLIES(t, rht_count(h, &t->reply), RHT_COUNTED, {.count = 514});
+    close_table(t);
+}
+
 /* Goes on by one operation at a time to the call's end, and counts the operations. */
 static uint32_t by_ones(struct test *t, uint32_t code, uint32_t *made)
 {
@@ -610,7 +635,8 @@ static const struct named tests[] = {
     {"listed", listed}, {"lists_go", lists_go}, {"releases", releases}, {"rebinds", rebinds},
     {"tidies", tidies}, {"walks", walks}, {"walks_lists", walks_lists}, {"walks_buckets", walks_buckets},
     {"grows", grows}, {"grows_twice", grows_twice}, {"shrinks", shrinks}, {"fills", fills},
-    {"is_busy", is_busy}, {"has_no_table", has_no_table}, {"goes_by_ones", goes_by_ones},
+    {"is_busy", is_busy}, {"has_no_table", has_no_table}, {"holds_tables_back", holds_tables_back},
+    {"goes_by_ones", goes_by_ones},
     {"goes_so_far", goes_so_far}, {"is_pending", is_pending}, {"tidies_twice", tidies_twice},
     {"is_elsewhere", is_elsewhere}, {"shares", shares}, {"opens_again", opens_again}, {"moves", moves},
     {"has_sixteen", has_sixteen},

@@ -87,7 +87,9 @@ static void is_in_call(struct test *t)
 /* None is in progress. What came with the last call stays. */
 static void is_in_no_call(struct test *t)
 {
+    const rht_cursor start = {0, 0, false};
     rht_handle *h = t->handles;
+    rht_pair pair = {0};
     open_table(t, 1);
     REFUSED(t, rht_go_on(h, 1, &t->reply), RHT_NO_CALL);
     REFUSED(t, rht_go_on(h, 0, &t->reply), RHT_NO_STEPS);
@@ -97,6 +99,11 @@ static void is_in_no_call(struct test *t)
     REFUSED(t, rht_go_on(h, 1, &t->reply), RHT_NO_CALL);
     CHECK(t, rht_owners(h, 0, &t->owner, 1) == 1 && t->owner == 7);
     REFUSED(t, rht_finish(h, RHT_NOT_YET, &t->reply), RHT_NO_CALL);
+    ANSWERS(t, rht_walk(h, start, 1000, &t->reply), RHT_WALKED);
+    REFUSED(t, rht_go_on(h, 0, &t->reply), RHT_NO_STEPS);
+    ANSWERS(t, rht_open(&t->config, h, 1), RHT_STILL_OPEN);
+    CHECK(t, rht_pairs(h, 0, &pair, 1) == 1 && pair.port.number == 80 && pair.owner == 7);
+    CHECK(t, rht_pairs(h, 0, &pair, 1) == 1 && rht_owners(h, 0, &t->owner, 1) == 0);
     close_table(t);
 }
 

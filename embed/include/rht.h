@@ -19,8 +19,9 @@
  *   - Nothing else in the program defines a name that begins with rht_ or rattle_. The processor is of x86-64-v2.
  *
  * A handle whose call is in progress may hold the lock of a bucket, be the one at work, and be in a section that
- * keeps nodes from coming back. Others then get RHT_NOT_YET, RHT_ELSEWHERE and RHT_PENDING, as long as it isn't
- * gone on with. So a thread that has begun a call on one handle goes on with it before it waits for another one.
+ * keeps nodes and tables from coming back. Others then get RHT_NOT_YET, RHT_ELSEWHERE and RHT_PENDING, and in the end
+ * RHT_NO_NODE and RHT_NO_TABLE, as long as it isn't gone on with. So a thread that has begun a call on one handle goes
+ * on with it before it waits for another one.
  *
  * Calls on one handle are made in their order. Of calls on different handles an order is proved to exist that
  * fits all replies; that it is the order of time isn't proved. */
@@ -48,9 +49,11 @@ enum rht_code {
     RHT_ABSENT = 7,       /* the port isn't bound to this owner */
     RHT_REBOUND = 8,      /* the new owner has the old one's place */
     RHT_TOO_BIG = 9,      /* it was found to hold count ports, which is all that it may hold or more */
-    RHT_AGAIN = 10,       /* the table in slot `table` came between: call again, with a walk from its beginning */
+    RHT_AGAIN = 10,       /* call again, with a walk from its beginning: the table in slot `table` came between, or is
+                             the one with which a walk begins now */
     RHT_BUSY = 11,        /* a resize from slot `table` to slot `last` has to end first, as by rht_work_begin */
-    RHT_NO_TABLE = 12,    /* a table of size buckets, or a page of one, was wanted and couldn't be had */
+    RHT_NO_TABLE = 12,    /* a table of size buckets, or a page of one, was wanted and couldn't be had; nothing was
+                             bound or moved. What to do is said at rht_bind_begin and rht_work_begin */
     RHT_NO_NODE = 13,     /* each node was found taken at some moment: tidy, on each handle, and try again */
     RHT_PENDING = 14,     /* the handle number `caller` is in a call still that it was in when the nodes began to wait;
                              section is its section word */
@@ -92,8 +95,9 @@ typedef struct rht_cursor {
     bool more;
 } rht_cursor;
 
-/* What a table is opened with. min is at most max, where that isn't 0. The first table has 64 buckets, or the least
- * power of two above four thirds of the hint, min at least and max at most; it has to fit in the pages. */
+/* What a table is opened with. min is at most max, where that isn't 0. The first table has 64 buckets, or with a hint
+ * the least power of two that is four thirds of it or more. It has min at least and max at most, and has to fit in the
+ * pages. */
 typedef struct rht_config {
     uint32_t nodes;    /* the bindings that there may be at one time: 1 to 65,536 */
     uint32_t pages;    /* pages of 64 words that buckets are kept in: 4 to 4,096 */
@@ -125,8 +129,8 @@ typedef struct rht_reply {
     bool again;
 } rht_reply;
 
-/* A caller of a table, or nothing. Its fields are the library's. Each function writes to its handle, so handles of
- * different threads are best kept in cache lines of their own. */
+/* A caller of a table, or nothing. Its fields are the library's. Each function writes to its handle. So handles of
+ * different threads are best moved into cache lines of their own, once they are open. */
 typedef struct rht_handle {
     void *at;
     bool in_use;
@@ -158,13 +162,15 @@ uint32_t rht_close(rht_handle *handle);
 uint32_t rht_find(rht_handle *handle, rht_port port, uint32_t *owner);
 
 /* Walks the table from a cursor on, bucket by bucket, until a bucket ends with limit pairs or more seen; with a
- * limit of 0 after one bucket. There are never more pairs than nodes. RHT_WALKED; or RHT_AGAIN where the walk has to
- * begin anew, which it has to while a table is behind the current one, until an rht_work_begin has moved its entries.
- * The pairs stay until the handle's next call. */
+ * limit of 0 after one bucket. There are never more pairs than nodes. They stay until the handle's next call.
+ * RHT_WALKED; or RHT_AGAIN where the walk has to begin anew, by a cursor whose bytes are all 0. Two things may be the
+ * cause. The cursor doesn't fit the current table, as one of a table that was left since. Or a table is behind the
+ * current one: no walk comes to its end until an rht_work_begin has moved the entries there. */
 uint32_t rht_walk(rht_handle *handle, rht_cursor from, uint32_t limit, rht_reply *reply);
 
 /* Gives back nodes that this handle's calls took out, all that wait or none: RHT_CLEAR, or RHT_PENDING, also where
- * none waits. What was taken out while others waited is for a later call. */
+ * none waits. What was taken out while others waited is for a later call. So all have come back once RHT_CLEAR has a
+ * returned of 0. */
 uint32_t rht_tidy(rht_handle *handle, rht_reply *reply);
 
 /* Counts the bound ports, by one load: RHT_COUNTED. */
@@ -173,7 +179,10 @@ uint32_t rht_count(rht_handle *handle, rht_reply *reply);
 /* ---- calls that may have to wait for another handle: each makes one operation, and rht_go_on makes more.
  * RHT_NOT_YET comes from each of them; they are refused as the calls above. */
 
-/* Binds a port: RHT_BOUND, RHT_EXISTS, RHT_TOO_BIG, RHT_BUSY, RHT_NO_TABLE, RHT_NO_NODE. */
+/* Binds a port: RHT_BOUND, RHT_EXISTS, RHT_TOO_BIG, RHT_BUSY, RHT_NO_TABLE, RHT_NO_NODE. A bind wants a further table
+ * where more ports are bound than there are buckets, or 16 in its bucket. It wants a page where its bucket's is
+ * missing. Behind RHT_BUSY and RHT_NO_TABLE make rht_work_begin, and bind again. Where RHT_NO_TABLE stays, the pages
+ * are too few, or a call in progress holds back tables that were left. Calls that want neither go on as before. */
 uint32_t rht_bind_begin(rht_handle *handle, rht_port port, uint32_t owner, rht_reply *reply);
 
 /* Binds a port, and is tried once alone: also RHT_AGAIN. */
@@ -189,15 +198,17 @@ uint32_t rht_rebind_begin(rht_handle *handle, rht_port port, uint32_t owner, uin
 uint32_t rht_all_begin(rht_handle *handle, rht_port port, rht_reply *reply);
 
 /* Resizes the table where that is due, and gives back tables that were left: RHT_MOVED, RHT_IDLE, RHT_ELSEWHERE,
- * RHT_NO_TABLE. */
+ * RHT_NO_TABLE. Behind RHT_NO_TABLE a program goes on with the table as it is, and works again at the next kick. */
 uint32_t rht_work_begin(rht_handle *handle, rht_reply *reply);
 
 /* Goes on with the call in progress by that many operations, unless it ends before: its reply, or RHT_NOT_YET
- * after exactly so many. Refused as RHT_NO_STEPS where steps is 0, RHT_NOT_OPEN, RHT_NO_CALL. */
+ * after exactly so many. It is refused as the first of RHT_NO_STEPS, where steps is 0, RHT_NOT_OPEN and RHT_NO_CALL
+ * for which there is a reason. */
 uint32_t rht_go_on(rht_handle *handle, uint32_t steps, rht_reply *reply);
 
 /* ---- lists: what came with the handle's last call, from the place skip on, as far as there is room for it.
- * They answer how many were written; 0 also where the handle is blank or in a call. */
+ * They answer how many were written; 0 also where the handle is blank or in a call. A refused call leaves the lists of
+ * the call before as they were, and so do these two functions. */
 
 /* The owners that came with RHT_LISTED, the first owner first. */
 size_t rht_owners(rht_handle *handle, size_t skip, uint32_t *into, size_t room);

@@ -1,38 +1,30 @@
-"""Four threads share a table of ports. Each binds ports of its own, and then finds one of its neighbour's."""
-
-import threading
+"""Four threads share a table, and want the same 3,000 ports. Each port is bound by one of them."""
+from concurrent.futures import ThreadPoolExecutor
+from threading import Barrier
 
 import rht
 
-
-def bind(seat, port, owner):
-    """Binds a port. Where the table refuses it for now, the seat does what is due and binds again."""
-    while True:
-        reply = seat.bind(port, owner)
-        if isinstance(reply, rht.NoNode):
-            seat.tidy()
-        elif isinstance(reply, (rht.Busy, rht.NoTable)) or reply == rht.Bound(kick=True):
-            while seat.work() == rht.Moved(again=True):
-                pass
-        if isinstance(reply, (rht.Bound, rht.Exists)):
-            return
-        if isinstance(reply, rht.TooBig):
-            raise OverflowError(reply)
+start = Barrier(4)
 
 
-def serve(seat, barrier):
-    for number in range(200):
-        bind(seat, rht.Port(1000 * seat.caller + number), seat.caller)
-    barrier.wait()
-    neighbour = seat.find(1000 * ((seat.caller + 1) % 4))
-    print("thread %d: its neighbour is %d\n" % (seat.caller, neighbour), end="")
+def run(seat):
+    """Binds each port that is free, looks each one up, and answers how many it has bound."""
+    start.wait()
+    bound = 0
+    for number in range(3000):
+        reply = seat.bind(number, owner=seat.caller)
+        if not isinstance(reply, (rht.Bound, rht.Exists)):
+            raise RuntimeError(reply)
+        owner = seat.caller if reply else reply.owner
+        bound += bool(reply)
+        while reply in (rht.Bound(kick=True), rht.Moved(again=True)):
+            reply = seat.work()  # the table is due to grow
+        if seat.find(number) != owner:
+            raise RuntimeError("port %d isn't found as bound to %d" % (number, owner))
+    return bound
 
 
-with rht.Table(callers=4) as table:
-    barrier = threading.Barrier(4)
-    threads = [threading.Thread(target=serve, args=(seat, barrier)) for seat in table.seats]
-    for thread in threads:
-        thread.start()
-    for thread in threads:
-        thread.join()
-    print("%d ports are bound" % len(table.seats[0].pairs()))
+with rht.Table(callers=4) as table, ThreadPoolExecutor(4) as pool:
+    bound = list(pool.map(run, table.seats))
+    print("the threads bound %s of %d ports" % (bound, table.seats[0].count()))
+    assert sum(bound) == 3000

@@ -11,14 +11,16 @@ up, list, release and rebind ports, walk the table, and resize it meanwhile. Eac
         seat.find(80)               # 100
         seat.find(rht.Port(80, 1))  # None
 
-What a call answers is an object: Bound, Exists, NoNode and so on, as each call says. A reply is true where the call
+What most calls answer is an object: Bound, Exists, NoNode and so on, as each call says. A reply is true where the call
 did what it was asked for: Bound, Released, Rebound, Walked, Moved and Clear are. All others are false. What isn't an
-answer of the table is raised: a ValueError or TypeError of a wrong argument, or an RhtError.
+answer of the table is raised: a ValueError or TypeError of a wrong argument, or an RhtError. An owner may be 0, so
+what find answers is compared with None.
 
 What a program does beside its calls:
 
 - A reply with a kick says that the table is due to be resized: some seat makes work(), again while it answers
   Moved(again=True).
+- A bind that answers Busy or NoTable is made again behind a work().
 - A release and a rebind take a node out. It is free again behind a tidy() of the same seat.
 - A call that an exception broke off may hold a lock, be the one at work, and keep nodes from coming back. Make a
   further call of that seat, which finishes it, or close the seat.
@@ -135,15 +137,21 @@ class Busy(Reply):
 
 @dataclass(frozen=True)
 class NoTable(Reply):
-    """A table of size buckets, or a page of one, was wanted and couldn't be had. Nothing was bound, or moved."""
+    """A table of size buckets, or a page of one, was wanted and couldn't be had. Nothing was bound, or moved.
+
+    Behind a bind make work(), and bind again. Where it stays so, the pages are too few, or a call in progress holds
+    back tables that were left. A bind wants a table where more ports are bound than there are buckets, or 16 in the
+    port's bucket. It wants a page where its bucket's is missing. Calls that want neither go on as before.
+
+    Behind a work the table goes on as it is. Work again at the next kick."""
 
     size: int
 
 
 @dataclass(frozen=True)
 class NoNode(Reply):
-    """Nothing was bound: each node was found taken at some moment. Tidy, by each seat that took nodes out, and make the
-    call again."""
+    """Nothing was bound: each node was found taken at some moment. Tidy, by each seat that took nodes out, and make
+    the call again."""
 
 
 @dataclass(frozen=True)
@@ -549,8 +557,8 @@ class Seat:
         """Walks the table bucket by bucket, from a Cursor on, or from the first bucket without one. It ends behind a
         bucket once limit pairs or more were seen, and at a limit of 0 it walks one bucket: Walked, with the pairs.
 
-        Again comes where a table is behind the one that was walked, or where the cursor doesn't fit. It comes again
-        and again until somebody's work has moved the entries.
+        Again comes where the cursor doesn't fit, as one of a table that was left since. It comes too where a table is
+        behind the one that is walked. Then no walk comes to its end until a work has moved the entries.
 
         Of the pieces together that go from the first bucket to the table's end it is proved what the library's calls
         show. Each port that stayed bound meanwhile is shown, and none twice. No pair is shown that wasn't so at a
@@ -604,7 +612,8 @@ class Seat:
     @_alone
     def tidy(self) -> Reply:
         """Gives back the nodes that this seat's calls took out, all that wait or none: Clear, Pending. Those that were
-        taken out while others wait are for a later tidying. Pending may come also where no node waits."""
+        taken out while others wait are for a later tidying. So all have come back once it answers Clear(0). Pending
+        may come also where no node waits."""
         reply = _Reply()
         return _told(self._made(_lib.rht_tidy, ctypes.byref(reply)), reply, _OF_TIDY)
 
@@ -676,7 +685,9 @@ class Table:
     - pages: the pages that buckets are kept in, of 64 buckets each, 4 to 4,096; 256 where nothing is said.
     - hint: the ports that are expected, 1 to 65,536, or 0 where nothing is said.
     - min: the least size in buckets, 65,536 at most. It is rounded up to a power of two, 4 at least.
-    - max: the greatest size in buckets, 4 to 131,072, or 0 for none. It is rounded down to a power of two.
+    - max: the greatest size in buckets, 4 to 131,072, or 0 for none. It is rounded down to a power of two. The first
+      table has 64 buckets, or with a hint the least power of two that is four thirds of it or more. It has min at
+      least and max at most.
     - seed: the seed of the first table's hash, a number of 32 bits; 1 where nothing is said. Against chosen ports a
       random one helps.
     - rewalks: how often a look-up walks one bucket again, 0 to 255; 8 where nothing is said.

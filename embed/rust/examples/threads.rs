@@ -1,48 +1,30 @@
-//! Four threads share a table of ports. Each binds ports of its own, and then finds one of its neighbour's.
-
-use rht::{Bind, Config, Port, Seat, Table, Work};
-use std::sync::Barrier;
+//! Four threads share a table, and want the same 3,000 ports. Each port is bound by one of them.
+use rht::{Bind, Config, NotOpened, Port, Seat, Table, Work};
 use std::thread;
 
-fn main() -> Result<(), rht::NotOpened> {
-    let plain = Config::plain();
-    let table = Table::open(Config { callers: 4, ..plain })?;
-    let barrier = &Barrier::new(4);
-    thread::scope(|scope| {
-        for mut seat in table.seats {
-            scope.spawn(move || serve(&mut seat, barrier));
-        }
-    });
+fn main() -> Result<(), NotOpened> {
+    let table = Table::open(Config { callers: 4, ..Config::plain() })?;
+    let threads: Vec<_> = table.seats.into_iter().map(|seat| thread::spawn(|| bind_all(seat))).collect();
+    let bound: Vec<u32> = threads.into_iter().map(|thread| thread.join().expect("no panic")).collect();
+    println!("the threads bound {bound:?} of 3,000 ports");
+    assert_eq!(bound.iter().sum::<u32>(), 3_000);
     Ok(())
 }
 
-fn serve(seat: &mut Seat, barrier: &Barrier) {
-    let me = seat.caller();
-    for number in 0..500 {
-        bind(seat, Port::plain(1_000 * me + number), me);
-    }
-    barrier.wait();
-    let owner = seat.find(Port::plain(1_000 * ((me + 1) % 4)));
-    println!("thread {me}: its neighbour is {owner:?}, {} ports are bound", seat.count());
-}
-
-/// Binds a port. Where the table refuses it for now, the seat does what is due and binds again.
-fn bind(seat: &mut Seat, port: Port, owner: u32) {
-    loop {
-        match seat.bind(port, owner) {
-            Bind::Bound { kick: false } | Bind::Exists { .. } => return,
-            Bind::Bound { kick: true } => return work(seat),
-            Bind::Busy { .. } | Bind::NoTable { .. } => work(seat),
-            Bind::NoNode => {
-                seat.tidy();
+/// Binds each port that is free, looks each one up, and says how many it has bound.
+fn bind_all(mut seat: Seat) -> u32 {
+    let mut bound = 0;
+    for port in (0..3_000).map(Port::plain) {
+        let owner = match seat.bind(port, seat.caller()) {
+            Bind::Bound { kick } => {
+                while kick && seat.work() == (Work::Moved { again: true }) {}
+                bound += 1;
+                seat.caller()
             }
-            Bind::TooBig { count } => panic!("{count} ports are all that the table may hold"),
-        }
-        thread::yield_now();
+            Bind::Exists { owner } => owner,
+            refused => panic!("{port:?}: {refused:?}"),
+        };
+        assert_eq!(seat.find(port), Some(owner));
     }
-}
-
-/// Resizes the table, until no more is to be done.
-fn work(seat: &mut Seat) {
-    while seat.work() == (Work::Moved { again: true }) {}
+    bound
 }

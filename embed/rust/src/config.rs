@@ -22,8 +22,8 @@ pub enum Hash {
 
 /// What a table is opened with. Any numbers may be written here; `Table::open` refuses what it can't open.
 ///
-/// `min` is at most `max`, where that isn't 0. The first table has 64 buckets, or the least power of two above four
-/// thirds of the hint, `min` at least and `max` at most. It has to fit in the pages.
+/// `min` is at most `max`, where that isn't 0. The first table has 64 buckets, or with a hint the least power of two
+/// that is four thirds of it or more. It has `min` at least and `max` at most, and has to fit in the pages.
 ///
 /// ```
 /// use rht::{Config, Kind};

@@ -14,16 +14,18 @@
 //! assert_eq!(seat.find(Port::plain(81)), None);
 //! ```
 //!
-//! Each thread has a `Seat` of its own. `examples/threads.rs` shows several.
+//! Each thread has a [`Seat`] of its own. `examples/threads.rs` shows several.
 //!
 //! # What a program does beside its calls
 //!
-//! - A reply with a `kick` says that the table is due to be resized: some seat makes `Seat::work`, again while it
-//!   answers `Work::Moved` with `again`.
-//! - A release and a rebind take a node out. It is free again behind a `Seat::tidy` of the same seat.
+//! - A reply with a `kick` says that the table is due to be resized: some seat makes [`Seat::work`], again while it
+//!   answers [`Work::Moved`] with `again`.
+//! - A bind that answers [`Bind::Busy`] or [`Bind::NoTable`] is made again behind a [`Seat::work`].
+//! - A release and a rebind take a node out. It is free again behind a [`Seat::tidy`] of the same seat.
 //! - A bind or rebind that answers `NoNode` may find a node behind a tidying, of any seat that took nodes out.
 //! - A seat with a call in progress may hold a lock, be the one at work, and keep nodes from coming back. Others wait
-//!   for it, or are answered `Work::Elsewhere` or `Tidy::Pending`. So go on with it before you wait for another seat.
+//!   for it, or are answered [`Work::Elsewhere`] or [`Tidy::Pending`]. So go on with it before you wait for another
+//!   seat.
 //!
 //! # What is proved, and what isn't
 //!

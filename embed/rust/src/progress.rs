@@ -10,6 +10,20 @@ use std::thread::yield_now;
 const OPERATIONS: u32 = 64;
 
 /// What a call has come to that is made in pieces.
+///
+/// ```
+/// use rht::{Bind, Config, Port, Step, Table};
+///
+/// let mut table = Table::open(Config::plain()).unwrap();
+/// let mut step = table.seats[0].begin_bind(Port::plain(80), 100);
+/// let reply = loop {
+///     match step {
+///         Step::Ended(reply) => break reply,
+///         Step::NotYet(bind) => step = bind.go_on(4), // there is time for something else in between
+///     }
+/// };
+/// assert_eq!(reply, Bind::Bound { kick: false });
+/// ```
 #[derive(Debug)]
 #[must_use = "a call that isn't gone on with is finished when this is dropped, and its reply is lost"]
 pub enum Step<'a, R: Told> {
@@ -20,7 +34,7 @@ pub enum Step<'a, R: Told> {
 }
 
 impl<'a, R: Told> Step<'a, R> {
-    /// Goes on as `Progress::go_on` does, unless the call has ended.
+    /// Goes on as [`Progress::go_on`] does, unless the call has ended.
     pub fn go_on(self, operations: u32) -> Step<'a, R> {
         match self {
             Step::NotYet(progress) => progress.go_on(operations),
@@ -28,7 +42,7 @@ impl<'a, R: Told> Step<'a, R> {
         }
     }
 
-    /// Waits as `Progress::finish` does, unless the call has ended.
+    /// Waits as [`Progress::finish`] does, unless the call has ended.
     pub fn finish(self) -> R {
         match self {
             Step::NotYet(progress) => progress.finish(),
@@ -52,9 +66,9 @@ impl<'a, R: Told> Step<'a, R> {
 /// A call may wait: for another seat that has locked the port's bucket. While it does, each of its operations is one
 /// look whether that one has gone on.
 ///
-/// A progress that is dropped finishes its call, and so waits as `finish` does. A thread that has progresses of
-/// several seats should go on with them by turns. Were it to finish one that waits for another of its own, it would
-/// wait for good.
+/// A progress that is dropped finishes its call, and so waits as [`finish`](Progress::finish) does. A thread that has
+/// progresses of several seats should go on with them by turns. Were it to finish one that waits for another of its
+/// own, it would wait for good.
 ///
 /// A progress that is forgotten, as by `std::mem::forget`, leaves its call in progress. The next call of the seat
 /// finishes that one first.

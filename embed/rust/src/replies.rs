@@ -8,7 +8,7 @@ use crate::ffi::{self, code};
 pub enum Bind {
     /// The port is bound to the owner now.
     Bound {
-        /// The table may want to be resized: make `Seat::work`.
+        /// The table may want to be resized: make [`Seat::work`](crate::Seat::work).
         kick: bool,
     },
     /// The port was bound already. It comes only in tables of one owner for each port.
@@ -21,19 +21,24 @@ pub enum Bind {
         /// How many ports it was found to hold.
         count: u64,
     },
-    /// A resize has to end first: make `Seat::work`, and bind again.
+    /// A resize has to end first: make [`Seat::work`](crate::Seat::work), and bind again.
     Busy {
         /// The slot of the current table, 0 to 7.
         table: u32,
         /// The slot of the last table behind it, 0 to 7.
         last: u32,
     },
-    /// A further table, or a page of one, was wanted and couldn't be had: make `Seat::work`, and bind again.
+    /// A further table, or a page of one, was wanted and couldn't be had: make [`Seat::work`](crate::Seat::work), and
+    /// bind again. Where it stays so, the pages are too few, or a call in progress holds back tables that were left.
+    ///
+    /// A table is wanted where more ports are bound than there are buckets, or 16 in the port's bucket. A page is
+    /// wanted where the bucket's is missing. Calls that want neither go on as before.
     NoTable {
         /// The size that was wanted, in buckets.
         size: u32,
     },
-    /// Each node was found taken at some moment: make `Seat::tidy`, on each seat that took nodes out, and bind again.
+    /// Each node was found taken at some moment: make [`Seat::tidy`](crate::Seat::tidy), on each seat that took nodes
+    /// out, and bind again.
     NoNode,
 }
 
@@ -53,9 +58,10 @@ pub enum BindOnce {
 /// What a release answers.
 #[derive(Clone, Copy, Debug, PartialEq, Eq)]
 pub enum Release {
-    /// One binding of the port to the owner was taken out. Its node is free again behind a `Seat::tidy`.
+    /// One binding of the port to the owner was taken out. Its node is free again behind a
+    /// [`Seat::tidy`](crate::Seat::tidy).
     Released {
-        /// The table may want to be resized: make `Seat::work`.
+        /// The table may want to be resized: make [`Seat::work`](crate::Seat::work).
         kick: bool,
     },
     /// The port isn't bound to this owner.
@@ -66,7 +72,8 @@ pub enum Release {
 #[derive(Clone, Copy, Debug, PartialEq, Eq)]
 #[must_use]
 pub enum Rebind {
-    /// The new owner has the old one's place. The old one's node is free again behind a `Seat::tidy`.
+    /// The new owner has the old one's place. The old one's node is free again behind a
+    /// [`Seat::tidy`](crate::Seat::tidy).
     Rebound,
     /// The port isn't bound to the old owner.
     Absent,
@@ -74,7 +81,7 @@ pub enum Rebind {
     NoNode,
 }
 
-/// What a listing answers. `Seat::owners` gives the owners.
+/// What a listing answers. [`Seat::owners`](crate::Seat::owners) gives the owners.
 #[derive(Clone, Copy, Debug, PartialEq, Eq)]
 pub struct Listed {
     /// How many owners the port has.
@@ -93,7 +100,8 @@ pub enum Work {
     Idle,
     /// Another seat is at work, so nothing was done.
     Elsewhere,
-    /// A table was due and couldn't be had. Nothing was moved.
+    /// A table was due and couldn't be had. Nothing was moved, and the table goes on as it is. Work again at the next
+    /// kick.
     NoTable {
         /// The size that was due, in buckets.
         size: u32,
@@ -104,7 +112,7 @@ pub enum Work {
 #[derive(Clone, Copy, Debug, PartialEq, Eq)]
 #[must_use]
 pub enum Walk {
-    /// Buckets were walked, and `Seat::pairs` gives what was seen.
+    /// Buckets were walked, and [`Seat::pairs`](crate::Seat::pairs) gives what was seen.
     Walked {
         /// How many pairs were seen.
         len: u32,
@@ -118,7 +126,7 @@ pub enum Walk {
     },
 }
 
-/// Where a walk goes on. Any numbers may be written here: a cursor that doesn't fit is answered `Walk::Again`.
+/// Where a walk goes on. Any numbers may be written here: a cursor that doesn't fit is answered [`Walk::Again`].
 #[derive(Clone, Copy, Debug, PartialEq, Eq, Hash)]
 pub struct Cursor {
     /// Which of the tables made so far is walked.
@@ -144,7 +152,7 @@ pub enum Tidy {
     },
 }
 
-/// No whole walk could be had in so many tries.
+/// No whole walk could be had in so many tries, by [`Seat::walk_all`](crate::Seat::walk_all).
 #[derive(Clone, Copy, Debug, PartialEq, Eq)]
 pub struct NotWhole;
 

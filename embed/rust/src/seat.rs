@@ -49,7 +49,7 @@ struct Place(ffi::Handle);
 ///
 /// A call that panics since the archive doesn't fit leaves the seat as the archive left it.
 pub struct Seat {
-    // A box, so that the handle stays where it is when the seat is moved: a call may be in it that was forgotten.
+    // A box, so that to move a seat is to move a pointer, and not a whole cache line.
     place: Box<Place>,
     caller: u32,
     not_sync: PhantomData<Cell<()>>,
@@ -126,11 +126,12 @@ impl Seat {
     }
 
     /// Walks the table bucket by bucket, from a cursor on, or from the first bucket without one. It ends behind a
-    /// bucket once `limit` pairs or more were seen; at a limit of 0 it walks one bucket. `pairs` gives the pairs, which
-    /// are never more than the table's nodes.
+    /// bucket once `limit` pairs or more were seen; at a limit of 0 it walks one bucket. [`pairs`](Seat::pairs) gives
+    /// the pairs, which are never more than the table's nodes.
     ///
-    /// `Again` comes where a table is behind the one that was walked, or where the cursor doesn't fit. It comes again
-    /// and again until somebody's `work` has moved the entries.
+    /// [`Walk::Again`] comes where the cursor doesn't fit, as one of a table that was left since. It comes too where a
+    /// table is behind the one that is walked. Then no walk comes to its end until a [`work`](Seat::work) has moved
+    /// the entries.
     ///
     /// Of the pieces together that go from the first bucket to the table's end it is proved what they show. Each port
     /// that stayed bound meanwhile is shown, and none twice. No pair is shown that wasn't so at a moment meanwhile.
@@ -162,8 +163,8 @@ impl Seat {
     }
 
     /// Gives back the nodes that this seat's calls took out, all that wait or none, so that binds can take them
-    /// again. Those that were taken out while others wait are for a later tidying. `Pending` may come also where no
-    /// node waits.
+    /// again. Those that were taken out while others wait are for a later tidying. So all have come back once
+    /// [`Tidy::Clear`] says that 0 were returned. [`Tidy::Pending`] may come also where no node waits.
     pub fn tidy(&mut self) -> Tidy {
         self.whole(|handle, reply| ffi::rht_tidy(handle, reply))
     }
@@ -188,13 +189,13 @@ impl Seat {
 /// Calls that may wait for another seat. Each goes on until it has ended, and yields to other threads in between. It
 /// ends only if the threads go on for whose seats it waits. No claim says that its turn comes.
 impl Seat {
-    /// Binds a port to an owner. The refusals are told at `Bind`.
+    /// Binds a port to an owner. The refusals are told at [`Bind`].
     pub fn bind(&mut self, port: Port, owner: u32) -> Bind {
         self.begin_bind(port, owner).finish()
     }
 
     /// Binds a port to an owner, and is tried once alone: where a table is behind the last one that it used it
-    /// answers `BindOnce::Again`.
+    /// answers [`BindOnce::Again`].
     pub fn bind_once(&mut self, port: Port, owner: u32) -> BindOnce {
         self.begin_bind_once(port, owner).finish()
     }
@@ -220,9 +221,9 @@ impl Seat {
         owners
     }
 
-    /// Lists the owners of a port without taking memory. `owners` gives them.
+    /// Lists the owners of a port without taking memory. [`owners`](Seat::owners) gives them.
     pub fn list(&mut self, port: Port) -> Listed {
-        self.begin_all(port).finish()
+        self.begin_list(port).finish()
     }
 
     /// Gives back tables that were left. Then it resizes the table, where that is due. It is due behind a kick.
@@ -230,11 +231,14 @@ impl Seat {
         self.begin_work().finish()
     }
 
-    /// Walks the whole table, so many times at most, until a walk comes to the table's end without `Walk::Again`.
-    /// Behind each `Again` it makes `work` and begins anew. So it may wait, though a walk itself never does.
+    /// Walks the whole table, so many times at most, until a walk comes to the table's end without [`Walk::Again`].
+    /// Behind each of these it makes [`work`](Seat::work) and begins anew. So it may wait, though a walk itself never
+    /// does. The pairs are not the table of one moment; [`walk`](Seat::walk) says what they are.
     ///
-    /// The pairs are not the table of one moment; `walk` says what they are. With `tries` 0 nothing is walked, and
-    /// `NotWhole` comes. It comes too where another seat is at work all the while, or has stopped there.
+    /// # Errors
+    ///
+    /// [`NotWhole`] where each try was answered [`Walk::Again`], as where another seat is at work all the while, or
+    /// has stopped there. It comes also with `tries` 0, where nothing is walked.
     ///
     /// ```
     /// # use rht::{Config, Port, Table};
@@ -273,7 +277,7 @@ impl Seat {
     }
 }
 
-/// The calls that may wait, in pieces: begun by one operation, and gone on with by `Step::go_on`. None of the pieces
+/// The calls that may wait, in pieces: begun by one operation, and gone on with by [`Step::go_on`]. None of the pieces
 /// waits, and none takes memory.
 impl Seat {
     /// Begins a `bind`.
@@ -297,7 +301,7 @@ impl Seat {
     }
 
     /// Begins a `list`.
-    pub fn begin_all(&mut self, port: Port) -> Step<'_, Listed> {
+    pub fn begin_list(&mut self, port: Port) -> Step<'_, Listed> {
         self.begin(|handle, reply| ffi::rht_all_begin(handle, port, reply))
     }
 

@@ -115,7 +115,7 @@ fn a_call_in_progress_holds_nodes_back() {
     assert_eq!((one.caller(), two.caller()), (0, 1));
     assert_eq!(one.bind(port(80), 1), Bind::Bound { kick: false });
     assert_eq!(one.release(port(80), 1), Release::Released { kick: false });
-    let Step::NotYet(listing) = two.begin_all(port(80)) else {
+    let Step::NotYet(listing) = two.begin_list(port(80)) else {
         panic!("a listing has more than one operation");
     };
     let Tidy::Pending { caller: 1, section } = one.tidy() else {
