@@ -20,8 +20,6 @@ mod refused;
 mod session;
 mod shared;
 mod telling;
-#[cfg(test)]
-mod tests;
 
 pub use closing::NotClosed;
 pub use handle::Handle;

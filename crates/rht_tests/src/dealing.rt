@@ -1,11 +1,11 @@
 //! Scripts that are dealt. Who does a command is left open, so no test says it; the rest is worked out by
 //! hand from what the commands say.
 
-use crate::asserts::assert_same;
 use rht_deal::{Dealt, Done, run_dealt};
 use rht_io::{Gate, NoGate};
 use rht_model::{Call, Entry, Owners, Reply, is_legal};
 use rht_policy::{Lookup3, Low};
+use rht_run_tests::asserts::assert_same;
 use rht_script::{ReadError, read_dealt};
 use rht_words::{Hash, Kind, Port};
 use std::alloc::{AllocError, Global};

@@ -5,14 +5,13 @@ ghost use Rattle.std.specs.Prelude.{◌≡◌, true, IfSome};
 ghost use Rattle.rht_core.specs.Locals.{is_idle};
 ghost use Rattle.rht_run.specs.Passes.{IsPassOf, AreNew, IsNew};
 
-use crate::asserts::{assert_bound, assert_same};
-use crate::run::SMALL;
 use crate::turns::InTurn;
 use rht_io::{Gate, NoGate};
 use rht_lease::{LeaseOutcome, LeaseReplies, LeaseReply, Leases, Swept, read_leases, run_leases};
 use rht_model::Reply;
 use rht_policy::{Lookup3, Low, Mix};
 use rht_run::{Pass, Table};
+use rht_run_tests::asserts::{SMALL, assert_bound, assert_same};
 use rht_script::ReadError;
 use rht_words::{Hash, Port};
 use std::alloc::{AllocError, Global};

@@ -6,12 +6,12 @@ ghost use Rattle.rht_policy.specs.Mix.{mix_named, low_mix};
 ghost use Rattle.rht_script.specs.Sound.{IsSoundScript};
 ghost use Rattle.rht_registry.specs.Outcomes.{IsOutcome};
 
-use crate::asserts::{assert_bound, assert_pairs, assert_same};
 use rht_io::{Gate, NoGate};
 use rht_model::{Call, Closed, Replies, Reply};
 use rht_policy::{Low, Mix};
 use rht_registry::{Outcome, run_workers};
 use rht_run::Table;
+use rht_run_tests::asserts::{assert_bound, assert_pairs, assert_same};
 use rht_script::Script;
 use rht_words::{Config, Hash, Kind, Port};
 use std::alloc::{AllocError, Global};

@@ -6,11 +6,11 @@
 ghost use Rattle.std.specs.Prelude.{◌≡◌};
 ghost use Rattle.rht_policy.specs.Mix.{mix_named};
 
-use crate::asserts::assert_same;
 use rht_io::MemSink;
 use rht_model::Call;
 use rht_policy::{Lookup3, Low, Mix};
 use rht_registry::{ReplayError, replay};
+use rht_run_tests::asserts::assert_same;
 use rht_script::{Sched, Script};
 use rht_words::{Config, Hash, Kind, Port};
 use std::alloc::Global;

@@ -6,8 +6,6 @@ ghost use Rattle.std.specs.Prelude.{◌≡◌, true, IfOk, IfSome};
 ghost use Rattle.rht_core.specs.Locals.{is_idle};
 ghost use Rattle.rht_run.specs.Passes.{IsPassOf, AreNew, IsNew};
 
-use crate::asserts::{assert_pairs, assert_same};
-use crate::run::SMALL;
 use crate::turns::InTurn;
 use rht_io::{Gate, MemSink, NoGate};
 use rht_policy::{Lookup3, Low, Mix};
@@ -16,6 +14,7 @@ use rht_resume::{
     write_resumed,
 };
 use rht_run::{Pass, Table};
+use rht_run_tests::asserts::{SMALL, assert_pairs, assert_same};
 use rht_script::ReadError;
 use rht_words::{Hash, Port};
 use std::alloc::{AllocError, Global};

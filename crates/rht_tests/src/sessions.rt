@@ -4,11 +4,11 @@
 ghost use Rattle.std.specs.Prelude.{IfOk};
 ghost use Rattle.rht_session.specs.Handles.{IsFitHandle};
 
-use crate::{
+use rht_model::{Call, Cursor, Reply};
+use rht_session::{
     CConfig, CCursor, CPair, CPort, CReply, Handle, NotOpened, Refused, codes, told, told_closing,
     told_found, told_opening, told_whole,
 };
-use rht_model::{Call, Cursor, Reply};
 use rht_words::{Config, Hash, Kind, Port};
 use std::alloc::Global;
 use std::fmt::Debug;
