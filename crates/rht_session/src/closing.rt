@@ -54,7 +54,7 @@ pub(crate) enum Rooms {
 impl Handle {
     /// Closes all these handles, which are of one table and are blank then. Where no other handle of the table
     /// is open, the table is closed, and what was bound at its end is given, as by `Table::close`. Otherwise
-    /// they are closed each by itself, as by `close`. All memory is taken before the first of them is touched.
+    /// they are closed each by itself, as by `close`. All memory is taken before a session leaves its box.
     /// Refused are `NotOpen`, and behind that `InCall` and `Memory`, of which either may come first. The kernel's
     /// counterpart is `rhashtable_free_and_destroy`.
     pub fn close_all(alloc: Global, handles: &mut [Handle]) -> Result<Option<Closed>, NotClosed>
