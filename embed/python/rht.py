@@ -27,8 +27,9 @@ What a program does beside its calls:
 
 What is proved, and what isn't: the calls of the library are proved, and docs/EMBEDDING.md tells what of them. This
 module isn't, and neither is that it fits the library. Tests compare it with the header rht.h. Calls of one seat are
-made in their order. Of the calls of different seats an order is proved to exist that fits all replies; that it is the
-order of time isn't proved. That a call which waits comes to an end is not claimed, and neither is any speed.
+made in their order. For each seat a run of the table is proved to exist in which it has made its calls and got its
+replies. That one run has the calls of all seats is said by no clause. That a call which waits comes to an end is not
+claimed, and neither is any speed.
 
 What the library asks of a program is kept here at run time:
 

@@ -37,8 +37,8 @@
 //! header. What the header asks of a program is kept here by Rust's types. A seat isn't copied, is in one thread at
 //! a time, and in one call; safe code can't do otherwise.
 //!
-//! Calls of one seat are made in their order. Of the calls of different seats an order is proved to exist that fits
-//! all replies. That it is the order of time isn't proved.
+//! Calls of one seat are made in their order. For each seat a run of the table is proved to exist in which it has made
+//! its calls and got its replies. That one run has the calls of all seats is said by no clause.
 //!
 //! Not claimed at all is that a call which waits comes to an end, and how fast any call is.
 //!
