@@ -23,7 +23,7 @@ pub struct Table {
 }
 
 impl Table {
-    /// Opens a table. All memory that calls will need is taken here, by `malloc`.
+    /// Opens a table. All memory that calls will need is taken here, by `malloc`, but for that of closing seats together.
     ///
     /// ```
     /// use rht::{Config, NotOpened, Table};
