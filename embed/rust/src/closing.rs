@@ -89,9 +89,9 @@ impl Table {
 impl Seat {
     /// Closes these seats, which are of one table, all of them or none.
     ///
-    /// Where no other seat of the table is open, the table is closed with them, and what was bound is given. It is
-    /// proved that one run has the calls of all these seats, with their replies, and that this was bound at its end.
-    /// Where another seat is open the answer is `None`: these are closed as if each were dropped.
+    /// Where no other seat of the table is open, the table is closed with them, and what was bound is given. Of the
+    /// archive it is proved that one run has the calls of all these seats, with their replies, and that this was bound
+    /// at its end. Where another seat is open the answer is `None`: these are closed as if each were dropped.
     ///
     /// Before that, calls in progress are finished which were forgotten. They are gone on with by turns, so no seat
     /// given here waits for another one in vain; but they may wait for a seat elsewhere.
