@@ -157,8 +157,8 @@ void rht_config_init(rht_config *config);
 
 /* Opens a table with count handles, which have to be as many as config->callers, and blank: the one at place i
  * is the caller number i. Sizes in the config are rounded first, and config says them where the table was opened.
- * All memory that the calls below need is taken here, but for that of rht_close_all. RHT_OPENED; or the first of RHT_BAD_CONFIG, RHT_BAD_COUNT,
- * RHT_STILL_OPEN and RHT_NO_MEMORY for which there is a reason. */
+ * All memory that the calls below need is taken here, but for that of rht_close_all. RHT_OPENED; or the first of
+ * RHT_BAD_CONFIG, RHT_BAD_COUNT, RHT_STILL_OPEN and RHT_NO_MEMORY for which there is a reason. */
 uint32_t rht_open(rht_config *config, rht_handle *handles, size_t count);
 
 /* Closes a handle, whose number is given to no other. The table goes with its last handle. The nodes that its calls

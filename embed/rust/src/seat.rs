@@ -9,6 +9,8 @@ use crate::{Pair, Port};
 use core::cell::Cell;
 use core::fmt;
 use core::marker::PhantomData;
+use core::mem::swap;
+use std::sync::Arc;
 use std::thread::yield_now;
 
 /// The limit of a piece, where a whole walk is made.
@@ -17,6 +19,12 @@ const PIECE: u32 = 256;
 /// A handle with a cache line of its own. Each call writes to its handle, so two in one line would slow each other.
 #[repr(align(128))]
 struct Place(ffi::Handle);
+
+/// What the seats of one table share beside the table: so two seats are of one table where they share it.
+pub(crate) struct Origin {
+    /// The table's nodes.
+    pub(crate) nodes: u32,
+}
 
 /// A caller of a table. A thread that has a seat makes calls by it, one after another.
 ///
@@ -44,7 +52,7 @@ struct Place(ffi::Handle);
 /// ```
 ///
 /// A seat that is dropped closes, and finishes a call in progress before; for that it may wait. The last seat of a
-/// table gives back its memory. The nodes that a seat's calls took out and that it hasn't tidied stay taken while
+/// table gives back its memory. What is bound then is lost; [`close_all`](Seat::close_all) gives it. The nodes that a seat's calls took out and that it hasn't tidied stay taken while
 /// other seats of the table are open.
 ///
 /// A call that panics since the archive doesn't fit leaves the seat as the archive left it.
@@ -52,6 +60,7 @@ pub struct Seat {
     // A box, so that to move a seat is to move a pointer, and not a whole cache line.
     place: Box<Place>,
     caller: u32,
+    origin: Arc<Origin>,
     not_sync: PhantomData<Cell<()>>,
 }
 
@@ -62,9 +71,25 @@ pub(crate) fn told<R: Told>(code: u32, reply: &ffi::Reply) -> R {
 
 /// What every call here is made by.
 impl Seat {
-    /// The seat with this number, of a handle that was just opened.
-    pub(crate) fn of(caller: u32, handle: ffi::Handle) -> Seat {
-        Seat { place: Box::new(Place(handle)), caller, not_sync: PhantomData }
+    /// The seat with this number, of a handle that was just opened. Of the seats that share an origin all handles are
+    /// of one table, since `Table::open` gives each table one of its own.
+    pub(crate) fn of(caller: u32, handle: ffi::Handle, origin: Arc<Origin>) -> Seat {
+        Seat { place: Box::new(Place(handle)), caller, origin, not_sync: PhantomData }
+    }
+
+    /// Whether both seats are of one table.
+    pub(crate) fn is_beside(&self, other: &Seat) -> bool {
+        Arc::ptr_eq(&self.origin, &other.origin)
+    }
+
+    /// How many nodes the table has.
+    pub(crate) fn nodes(&self) -> usize {
+        self.origin.nodes as usize
+    }
+
+    /// Gives the seat this handle, and takes its own one. A seat whose handle is blank is only dropped.
+    pub(crate) fn swap_handle(&mut self, handle: &mut ffi::Handle) {
+        swap(&mut self.place.0, handle);
     }
 
     /// Makes a call. Where one is in progress that was forgotten, that one is finished before.
@@ -314,7 +339,8 @@ impl Seat {
 impl Drop for Seat {
     fn drop(&mut self) {
         let code = self.call(|handle| ffi::rht_close(handle));
-        if code != code::CLOSED && !std::thread::panicking() {
+        // It isn't open where it was closed together with others.
+        if !matches!(code, code::CLOSED | code::NOT_OPEN) && !std::thread::panicking() {
             misfit(code);
         }
     }
