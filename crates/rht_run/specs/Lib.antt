@@ -6,6 +6,8 @@ pub mod Spent
 pub mod Rule
 -- what clauses say of a table and its passes
 pub mod Passes
+-- the memory that a closing takes beforehand
+pub mod ClosingSpaces
 -- what the operations of a call have to show
 pub mod Caused
 -- what the calls of a command leave

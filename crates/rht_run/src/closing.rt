@@ -8,7 +8,7 @@ ghost use Rattle.rht_run.specs.declared.seats.Held.{Held as HeldOf};
 ghost use Rattle.rht_run.specs.Layout.{gaps, IsLaidOut};
 ghost use Rattle.rht_run.specs.Rule.{In};
 ghost use Rattle.rht_run.specs.Passes.{IsPassOf, Among, HasTaken, IsClosedWith, IsLaidEnd};
-ghost use Rattle.rht_core.specs.Closing.{IsRoomFor};
+ghost use Rattle.rht_run.specs.ClosingSpaces.{IsSpaceFor};
 
 use crate::layout::physical;
 use crate::pass::Pass;
@@ -19,7 +19,6 @@ use atomic_table::Seat;
 use rht_core::ClosingRoom;
 use rht_model::{Closed, Room};
 use rht_policy::Mix;
-use rht_words::Geometry;
 use std::alloc::{AllocError, Global};
 
 /// A table that wasn't closed, for want of memory, with the passes that came with it.
@@ -29,6 +28,14 @@ pub struct NotClosed<M: Mix> {
     pub table: Table<M>,
     /// The passes, as they were.
     pub passes: Vec<Pass<M>>,
+}
+
+/// The memory that a closing needs, taken beforehand: 8 bytes for each word of the table, and room for what the
+/// words say.
+#[derive(Drop)]
+pub struct ClosingSpace {
+    pub(crate) words: Room<u64>,
+    pub(crate) room: ClosingRoom,
 }
 
 impl<M: Mix> Table<M> {
@@ -49,14 +56,35 @@ impl<M: Mix> Table<M> {
         ensures table { IfErr result (λ all. all.table ≡ table) }
         ensures passes { IfErr result (λ all. all.passes.items ≡ passes.items) }
     {
-        let geometry = table.env.geometry;
-        let Ok((mut words, room)) = rooms(alloc, geometry) else {
+        let Ok(space) = table.closing_space(alloc) else {
             return Err(NotClosed { table, passes });
         };
-        let laid = table.end(passes);
+        Ok(table.close_in(passes, space))
+    }
+
+    /// Takes the memory that `close_in` needs for this table. The one refusal is want of memory.
+    pub fn closing_space(&self, alloc: Global) -> Result<ClosingSpace, AllocError>
+        ensures { IfOk result (IsSpaceFor self.now.env.geometry) }
+    {
+        let geometry = self.env.geometry;
+        let words = Room::with_limit(alloc, geometry.words() as u32)?;
+        let room = ClosingRoom::new(alloc, geometry)?;
+        Ok(ClosingSpace { words, room })
+    }
+
+    /// Closes the table, as `close`, in space that was taken for it before. Nothing is refused.
+    pub fn close_in(self, passes: Vec<Pass<M>>, space: ClosingSpace) -> Closed
+        requires some { 0 < vec_len passes }
+        requires passes { (p : PassOf M) → Among p passes.items → IsPassOf M.mix_of self p }
+        requires space { IsSpaceFor self.env.geometry space }
+        ensures { IsClosedWith M.mix_of self.env passes.items result }
+    {
+        let geometry = self.env.geometry;
+        let ClosingSpace { mut words, room } = space;
+        let laid = self.end(passes);
         read_words(&mut words, &laid, geometry.words() as u32);
         laid.free();
-        Ok(room.closed(geometry, words.as_slice()))
+        room.closed(geometry, words.as_slice())
     }
 
     /// Joins all passes, and closes the words.
@@ -112,16 +140,6 @@ impl<M: Mix> Table<M> {
         } = pass;
         self.words.shared.join_seat::<Hands<M>>(seat, other);
     }
-}
-
-/// Room for all words, and for what they say.
-fn rooms(alloc: Global, geometry: Geometry) -> Result<(Room<u64>, ClosingRoom), AllocError>
-    ensures words { IfOk result (λ r. (r.0.items ≡ []) × (r.0.limit ≡ words_in geometry)) }
-    ensures room { IfOk result (λ r. IsRoomFor geometry r.1) }
-{
-    let words = Room::with_limit(alloc, geometry.words() as u32)?;
-    let room = ClosingRoom::new(alloc, geometry)?;
-    Ok((words, room))
 }
 
 /// Reads all words that lie in a closed table, in the order of their places.

@@ -36,7 +36,7 @@ mod walking;
 mod work_pieces;
 mod working;
 
-pub use closing::NotClosed;
+pub use closing::{ClosingSpace, NotClosed};
 pub use pass::Pass;
 pub use seats::{Held, SeatView};
 pub use table::Table;
