@@ -1,6 +1,7 @@
 -- What exports do: what the calls on handles do, and C is told how each ended.
-use Rattle.std.specs.Prelude.{◌≡◌, ℕ, Option, Result, MatchResult, IfOk, IfErr, List}
-use Rattle.std.specs.List.{AllByRecursion}
+use Rattle.std.specs.Prelude.{◌≡◌, ℕ, true, Option, Result, MatchResult, IfOk, IfErr, List, map}
+use Rattle.std.specs.List.{AllByRecursion, list_all}
+use Rattle.rht_model.specs.declared.bindings.Closed.{Closed}
 use Rattle.rht_model.specs.declared.history.Call.{Call}
 use Rattle.rht_model.specs.declared.history.Call.TheVariants.{Find}
 use Rattle.rht_model.specs.declared.history.Reply.{Reply}
@@ -8,12 +9,16 @@ use Rattle.rht_session.specs.declared.session.Session.{Session}
 use Rattle.rht_session.specs.declared.handle.Handle.{Handle}
 use Rattle.rht_session.specs.declared.refused.Refused.{Refused}
 use Rattle.rht_session.specs.declared.refused.NotOpened.{NotOpened}
+use Rattle.rht_session.specs.declared.closing.NotClosed.{NotClosed}
+use Rattle.rht_session.specs.declared.plain.CPair.{CPair}
+use Rattle.rht_session.specs.declared.plain.CClosed.{CClosed}
 use Rattle.rht_session.specs.declared.plain.CConfig.{CConfig}
 use Rattle.rht_session.specs.declared.plain.CReply.{CReply}
 use Rattle.rht_session.specs.Plain.{config_said, c_config}
 use Rattle.rht_session.specs.Sessions.{Ends, LooksUp, Begins}
-use Rattle.rht_session.specs.Handles.{IsBlank, HadFree, IsFitHandle, IsNotFree, IsAnswered, IsGoneOn, Shows, AreToOpen, AreOpenedHandles, IsWhyNotOpened}
-use Rattle.rht_session.specs.Told.{opening_code, closing_code, IsTold, IsToldWhole, IsToldFound}
+use Rattle.rht_session.specs.Closings.{HaveClosed, IsWhyNotClosed}
+use Rattle.rht_session.specs.Handles.{sessions_of, is_blank, IsBlank, HadFree, IsFitHandle, IsNotFree, IsAnswered, IsGoneOn, Shows, AreToOpen, AreOpenedHandles, IsWhyNotOpened}
+use Rattle.rht_session.specs.Told.{opening_code, closing_code, IsTold, IsToldWhole, IsToldFound, IsToldClosed}
 
 -- a table was opened with the rounded config, which is written, or that was refused
 pub record HasOpened (config_before : CConfig) (before : List Handle) (code : ℕ) (config_after : CConfig) (after : List Handle)
@@ -33,6 +38,17 @@ pub record HasClosed (before : Handle) (code : ℕ) (after : Handle) : Type 0 wh
   pub told : code ≡ closing_code answer
   pub closed : IfOk answer (λ _. IsBlank after × HadFree before)
   pub refused : IfErr answer (λ refused. IsNotFree refused before after)
+
+-- handles of one table were closed together, or that was refused
+pub record HasClosedAll (before : List Handle) (room_before : List CPair) (told_before : CClosed) (code : ℕ) (room_after : List CPair)
+    (told_after : CClosed) (after : List Handle)
+    : Type 0 where
+  pub answer : Result (Option Closed) NotClosed
+  pub told : IsToldClosed answer code room_before room_after told_before told_after
+  pub blank : IfOk answer (λ _. list_all is_blank after ≡ true)
+  pub closed : IfOk answer (HaveClosed before)
+  pub same : IfErr answer (λ _. map sessions_of after ≡ map sessions_of before)
+  pub why : IfErr answer (IsWhyNotClosed before)
 
 -- a port was looked up, or that was refused
 pub record HasFound (port : ℕ) (before : Handle) (owner_before code owner_after : ℕ) (after : Handle) : Type 0 where

@@ -1,12 +1,14 @@
 //! Opening and closing.
 
 ghost use Rattle.std.specs.Prelude.{◌≡◌};
+ghost use Rattle.std.specs.List.{AllByRecursion};
 ghost use Rattle.rht_words.specs.Settled.{plain_config};
 ghost use Rattle.rht_session.specs.Plain.{c_config};
 ghost use Rattle.rht_session.specs.Handles.{IsFitHandle};
-ghost use Rattle.rht_c.specs.Exports.{HasOpened, HasClosed};
+ghost use Rattle.rht_session.specs.Closings.{AreOfOneTable};
+ghost use Rattle.rht_c.specs.Exports.{HasOpened, HasClosed, HasClosedAll};
 
-use rht_session::{CConfig, Handle, told_closing, told_opening};
+use rht_session::{CClosed, CConfig, CPair, Handle, told_closing, told_closing_all, told_opening};
 use rht_words::Config;
 use std::alloc::Global;
 
@@ -42,4 +44,21 @@ pub extern "C" fn rht_close(alloc: Global, handle: &mut Handle) -> u32
     ensures closed { HasClosed handle.old result handle.new }
 {
     told_closing(handle.close(alloc))
+}
+
+/// Closes these handles, which are of one table, as `Handle::close_all`. Where the table is closed with that its
+/// bindings are written, as many as there is room for.
+#[unsafe(no_mangle)]
+pub extern "C" fn rht_close_all(
+    alloc: Global,
+    handles: &mut [Handle],
+    into: &mut [CPair],
+    closed: &mut CClosed,
+) -> u32
+    requires fit { AllByRecursion IsFitHandle handles.old }
+    requires one { AreOfOneTable handles.old }
+    ensures fit { AllByRecursion IsFitHandle handles.new }
+    ensures closed { HasClosedAll handles.old into.old closed.old result into.new closed.new handles.new }
+{
+    told_closing_all(Handle::close_all(alloc, handles), into, closed)
 }

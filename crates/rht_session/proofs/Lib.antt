@@ -14,5 +14,13 @@ pub mod OneSession
 pub mod FitHandles
 -- a room that is written place by place
 pub mod ShownLists
+-- handles whose sessions are taken out, and put back
+pub mod TakenHandles
+-- sessions of one table, whose passes are gathered
+pub mod ClosedSessions
+-- bindings that are written into a room
+pub mod WrittenBindings
+-- what was told, read back
+pub mod ToldApart
 -- what a call on a handle leaves
 pub mod HandleCalls

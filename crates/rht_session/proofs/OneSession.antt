@@ -1,5 +1,5 @@
 -- A list of one session, and of none, by its length.
-use Rattle.std.proofs.Common.{◌≡◌, ℕ, Bool, true, false, List, [], ◌∷◌, length, refl, ap, ◌∙◌, arith}
+use Rattle.std.proofs.Common.{◌≡◌, Bool, true, false, List, [], ◌∷◌, length, refl, arith}
 use Rattle.rht_session.specs.Held.{one_if, is_some}
 
 module _ {A : Type 0} where

@@ -6,6 +6,8 @@ pub mod Sessions
 pub mod Lists
 -- what calls leave of a handle, and when they are refused
 pub mod Handles
+-- what the closing of several handles together leaves
+pub mod Closings
 -- what structs that C lays out say
 pub mod Plain
 -- how C is told of answers

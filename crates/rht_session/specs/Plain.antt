@@ -1,5 +1,5 @@
 -- What the structs that C lays out say, and how they say it.
-use Rattle.std.specs.Prelude.{◌≡◌, ℕ, Bool, true, false, nat_le, max, if◌then◌else◌, Option, Some, None}
+use Rattle.std.specs.Prelude.{ℕ, Bool, true, false, nat_le, max, if◌then◌else◌, Option, Some, None}
 use Rattle.rht_words.specs.Ports.{port_at, net_of, number_of}
 use Rattle.rht_words.specs.Limits.{min_limits, max_limits, least_size}
 use Rattle.rht_words.specs.Sizes.{rounded_up, rounded_down}

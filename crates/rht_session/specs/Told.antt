@@ -1,13 +1,19 @@
 -- How C is told of answers: by a code, and by the numbers that come with a reply.
-use Rattle.std.specs.Prelude.{◌≡◌, ℕ, Bool, true, false, Option, Some, None, Result, Ok, Err}
+use Rattle.std.specs.Prelude.{◌≡◌, ℕ, false, Option, Some, None, Result, Ok, Err, List, map}
+use Rattle.rht_model.specs.declared.bindings.Closed.{Closed}
 use Rattle.rht_model.specs.declared.history.Reply.{Reply}
 use Rattle.rht_model.specs.declared.history.Reply.TheVariants.{Bound, Exists, Found, Missing, Listed, Released, Absent, Rebound, TooBig, Again, Busy, NoTable, NoNode, Pending, Elsewhere, Walked, Moved, Idle, Clear, Counted}
 use Rattle.rht_session.specs.declared.refused.Refused.{Refused}
 use Rattle.rht_session.specs.declared.refused.Refused.TheVariants.{NotOpen, InCall, NoCall, NoSteps}
 use Rattle.rht_session.specs.declared.refused.NotOpened.{NotOpened}
 use Rattle.rht_session.specs.declared.refused.NotOpened.TheVariants as reasons
+use Rattle.rht_session.specs.declared.closing.NotClosed.{NotClosed}
+use Rattle.rht_session.specs.declared.closing.NotClosed.TheVariants as not_closed
+use Rattle.rht_session.specs.declared.plain.CPair.{CPair}
+use Rattle.rht_session.specs.declared.plain.CClosed.{CClosed}
 use Rattle.rht_session.specs.declared.plain.CReply.{CReply}
-use Rattle.rht_session.specs.Plain.{c_cursor}
+use Rattle.rht_session.specs.Plain.{c_pair, c_cursor}
+use Rattle.rht_session.specs.Lists.{all_owned, IsWritten}
 
 -- ---- codes
 
@@ -112,3 +118,25 @@ owner_told _ before = before
 abbrev pub IsToldFound : Result Reply Refused → ℕ → ℕ → ℕ → Type 0
 IsToldFound (Ok reply) code before after = (code ≡ code_of reply) × (after ≡ owner_told reply before)
 IsToldFound (Err refused) code before after = (code ≡ refusal_code refused) × (after ≡ before)
+
+-- of the closing of several handles: where a table was closed its bindings are written, as far as there is room for them, with how many
+-- were written, how many ports are bound, and the size of its current table
+abbrev pub IsToldClosed : Result (Option Closed) NotClosed → ℕ → List CPair → List CPair → CClosed → CClosed → Type 0
+IsToldClosed (Ok (Some closed)) code before after told_before told_after =
+    (code ≡ 34) × IsWritten before (map c_pair (all_owned closed.bindings.pairs)) told_after.len after
+    × (told_after.keys ≡ closed.keys) × (told_after.size ≡ closed.size)
+IsToldClosed (Ok None) code before after told_before told_after = (code ≡ 33) × (after ≡ before) × (told_after ≡ told_before)
+IsToldClosed (Err not_closed.NotOpen) code before after told_before told_after = (code ≡ 64) × (after ≡ before) × (told_after ≡ told_before)
+IsToldClosed (Err not_closed.InCall) code before after told_before told_after = (code ≡ 65) × (after ≡ before) × (told_after ≡ told_before)
+IsToldClosed (Err not_closed.Memory) code before after told_before told_after = (code ≡ 83) × (after ≡ before) × (told_after ≡ told_before)
+
+-- ---- what tells answers apart
+
+-- two answers that C is told by one code and by the same numbers are the same
+abbrev pub TellsApart : Type 0
+TellsApart = (one other : Result (Option Reply) Refused) (code : ℕ) (before after : CReply)
+    → IsTold one code before after → IsTold other code before after → one ≡ other
+
+abbrev pub TellsWholeApart : Type 0
+TellsWholeApart = (one other : Result Reply Refused) (code : ℕ) (before after : CReply)
+    → IsToldWhole one code before after → IsToldWhole other code before after → one ≡ other

@@ -45,8 +45,10 @@ pub const COUNTED: u32 = 20;
 
 /// A table was opened.
 pub const OPENED: u32 = 32;
-/// A handle was closed.
+/// A handle was closed, or some of a table's handles were.
 pub const CLOSED: u32 = 33;
+/// All handles of a table were closed, and the table with them.
+pub const ENDED: u32 = 34;
 
 /// Refusals of calls on a handle.
 pub const NOT_OPEN: u32 = 64;

@@ -8,8 +8,10 @@
 #![tactic(auto)]
 
 mod address;
+mod closing;
 pub mod codes;
 mod handle;
+pub mod laws;
 mod lists;
 mod opening;
 mod parts;
@@ -19,9 +21,10 @@ mod session;
 mod shared;
 mod telling;
 
+pub use closing::NotClosed;
 pub use handle::Handle;
-pub use plain::{CConfig, CCursor, CPair, CPort, CReply};
+pub use plain::{CClosed, CConfig, CCursor, CPair, CPort, CReply};
 pub use refused::{NotOpened, Refused};
 pub use session::Session;
 pub use shared::Shared;
-pub use telling::{told, told_closing, told_found, told_opening, told_whole};
+pub use telling::{told, told_closing, told_closing_all, told_found, told_opening, told_whole};

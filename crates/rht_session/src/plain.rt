@@ -67,6 +67,16 @@ pub struct CReply {
     pub again: bool,
 }
 
+/// What a table was at its end: how many of its bindings were written, how many ports were bound, and the size of
+/// its current table in buckets.
+#[repr(C)]
+#[derive(Clone, Copy, Debug, PartialEq, Eq)]
+pub struct CClosed {
+    pub len: u64,
+    pub keys: u32,
+    pub size: u32,
+}
+
 impl CPort {
     /// The port that this says.
     #[inline(always)]

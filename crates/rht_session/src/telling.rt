@@ -1,12 +1,14 @@
 //! Answers as C gets them: a code, and the numbers that come with a reply.
 
 ghost use Rattle.std.specs.Prelude.{◌≡◌};
-ghost use Rattle.rht_session.specs.Told.{code_of, refusal_code, opening_code, closing_code, fields_of, IsTold, IsToldWhole, IsToldFound};
+ghost use Rattle.rht_session.specs.Told.{code_of, refusal_code, opening_code, closing_code, fields_of, IsTold, IsToldWhole, IsToldFound, IsToldClosed};
 
+use crate::closing::NotClosed;
 use crate::codes;
-use crate::plain::{CCursor, CReply};
+use crate::lists::write_bindings;
+use crate::plain::{CClosed, CCursor, CPair, CReply};
 use crate::refused::{NotOpened, Refused};
-use rht_model::Reply;
+use rht_model::{Closed, Reply};
 
 /// A reply without numbers.
 const NOTHING: CReply = CReply {
@@ -55,17 +57,17 @@ pub fn told_whole(answer: Result<Reply, Refused>, into: &mut CReply) -> u32
     }
 }
 
-/// Says what a look-up came to.
+/// Says what a look-up came to. Its two replies have their codes in their own arms, since a look-up from C is short.
 pub fn told_found(answer: Result<Reply, Refused>, owner: &mut u32) -> u32
     ensures { IsToldFound answer result owner.old owner.new }
 {
     match answer {
-        Ok(reply) => {
-            if let Reply::Found { owner: first } = reply {
-                *owner = first;
-            }
-            code_of(reply)
+        Ok(Reply::Found { owner: first }) => {
+            *owner = first;
+            codes::FOUND
         }
+        Ok(Reply::Missing) => codes::MISSING,
+        Ok(other) => code_of(other),
         Err(refused) => refusal_code(refused),
     }
 }
@@ -90,6 +92,31 @@ pub fn told_closing(answer: Result<(), Refused>) -> u32
     match answer {
         Ok(()) => codes::CLOSED,
         Err(refused) => refusal_code(refused),
+    }
+}
+
+/// Says what the closing of several handles came to: where the table was closed, its bindings and what it was.
+pub fn told_closing_all(
+    answer: Result<Option<Closed>, NotClosed>,
+    into: &mut [CPair],
+    told: &mut CClosed,
+) -> u32
+    ensures { IsToldClosed answer result into.old into.new told.old told.new }
+{
+    match answer {
+        Ok(Some(closed)) => {
+            let len = write_bindings(&closed.bindings, into) as u64;
+            *told = CClosed {
+                len,
+                keys: closed.keys,
+                size: closed.size,
+            };
+            codes::ENDED
+        }
+        Ok(None) => codes::CLOSED,
+        Err(NotClosed::NotOpen) => codes::NOT_OPEN,
+        Err(NotClosed::InCall) => codes::IN_CALL,
+        Err(NotClosed::Memory) => codes::NO_MEMORY,
     }
 }
 

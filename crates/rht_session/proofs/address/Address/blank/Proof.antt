@@ -2,8 +2,8 @@
 use mathlib.Core.Path.{refl, sym, subst}
 use mathlib.Core.List.{List, [], ◌∷◌, ◌++◌}
 use seplogic.Ra.Ura.{Ura}
-use lib.Dec.{T, lit<}
-use mir.Val.{Val, vnull, vstruct, vcons, vnil, has_ty, WT}
+use lib.Dec.{lit<}
+use mir.Val.{Val, vnull, vstruct, vcons, vnil, has_ty}
 use base.Logic.{SProp, ent, emp, id⊢}
 use base.Fml.{ftrue, fsep}
 use prog.Memory.{Memory}
@@ -18,7 +18,6 @@ use types.Part.{agg}
 use types.Run.{lit, no_more, and_then, returns, enter}
 use types.ByLocal.{alloc_all, pass_all, free_all, look_at, get, sets}
 use denote.Exit.{yes}
-use denote.Signature.{type_at}
 use denote.Steps.{nothing}
 use denote.Triple.Spec.{triple_of}
 use denote.Triple.Statement.{Contract}
@@ -28,9 +27,8 @@ use denote.RattleType.{Valss}
 use denote.RawPtr.{RawPtr, null_ptr}
 use denote.Struct.Struct.{within}
 use denote.Struct.Owning.{shape, to}
-use Rattle.std.proofs.alloc.Calls.{α, Fits, handle_tells}
+use Rattle.std.proofs.alloc.Calls.{α, handle_tells}
 use Rattle.std_alloc.proofs.ResultValues.{and_tt}
-use Rattle.std_alloc.proofs.BoxSteps.Form.{box_ty}
 use Rattle.std_heap.specs.contracts.Global as Heap
 use Rattle.rht_session.specs.contracts.address.Address as Address
 use Rattle.rht_session.proofs.AsBox.{E, FromHeap as From}

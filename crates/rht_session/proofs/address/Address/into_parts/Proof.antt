@@ -23,7 +23,7 @@ use denote.Triple.Spec.{triple_of}
 use denote.Triple.Statement.{Contract}
 use denote.Triple.Table.{entered}
 use denote.Triple.Walked.{says, Stays, stay_dropped, walk_of, ends_at, Goes-dropped, walk_Meets}
-use Rattle.std_alloc.proofs.BoxSteps.Form.{D, B, word, box_typed}
+use Rattle.std_alloc.proofs.BoxSteps.Form.{D, word, box_typed}
 use Rattle.std_alloc.proofs.BoxSteps.Steps.{box_out, box_in}
 use Rattle.rht_session.specs.contracts.session.Session.{the_row as S}
 use Rattle.rht_session.specs.contracts.address.Address.{the_row as A}
