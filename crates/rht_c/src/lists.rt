@@ -7,34 +7,23 @@ ghost use Rattle.rht_session.specs.Handles.{IsFitHandle};
 ghost use Rattle.rht_c.specs.Exports.{HasShown};
 
 use rht_session::{CPair, Handle};
-use std::alloc::Global;
 
 /// Writes owners, as `Handle::owners`, and says how many; none where that refuses.
 #[unsafe(no_mangle)]
-pub extern "C" fn rht_owners(
-    alloc: Global,
-    handle: &mut Handle,
-    skip: usize,
-    into: &mut [u32],
-) -> usize
+pub extern "C" fn rht_owners(handle: &mut Handle, skip: usize, into: &mut [u32]) -> usize
     requires { IsFitHandle handle.old }
     ensures fit { IsFitHandle handle.new }
     ensures shown { HasShown owners_of skip handle.old into.old result into.new handle.new }
 {
-    handle.owners(alloc, skip, into).unwrap_or(0)
+    handle.owners(skip, into).unwrap_or(0)
 }
 
 /// Writes pairs, as `Handle::pairs`, and says how many; none where that refuses.
 #[unsafe(no_mangle)]
-pub extern "C" fn rht_pairs(
-    alloc: Global,
-    handle: &mut Handle,
-    skip: usize,
-    into: &mut [CPair],
-) -> usize
+pub extern "C" fn rht_pairs(handle: &mut Handle, skip: usize, into: &mut [CPair]) -> usize
     requires { IsFitHandle handle.old }
     ensures fit { IsFitHandle handle.new }
     ensures shown { HasShown (λ s. map c_pair (pairs_of s)) skip handle.old into.old result into.new handle.new }
 {
-    handle.pairs(alloc, skip, into).unwrap_or(0)
+    handle.pairs(skip, into).unwrap_or(0)
 }

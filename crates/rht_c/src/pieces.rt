@@ -9,12 +9,10 @@ ghost use Rattle.rht_c.specs.Exports.{HasBegun, HasGoneOn};
 
 use rht_model::Call;
 use rht_session::{CPort, CReply, Handle, told};
-use std::alloc::Global;
 
 /// Begins to bind a port, as `Table::bind` does.
 #[unsafe(no_mangle)]
 pub extern "C" fn rht_bind_begin(
-    alloc: Global,
     handle: &mut Handle,
     port: CPort,
     owner: u32,
@@ -29,13 +27,12 @@ pub extern "C" fn rht_bind_begin(
         owner,
         once: false,
     };
-    told(handle.begin(alloc, call), reply)
+    told(handle.begin(call), reply)
 }
 
 /// Begins to bind a port once, as `Table::bind_once` does.
 #[unsafe(no_mangle)]
 pub extern "C" fn rht_bind_once_begin(
-    alloc: Global,
     handle: &mut Handle,
     port: CPort,
     owner: u32,
@@ -50,13 +47,12 @@ pub extern "C" fn rht_bind_once_begin(
         owner,
         once: true,
     };
-    told(handle.begin(alloc, call), reply)
+    told(handle.begin(call), reply)
 }
 
 /// Begins to take a binding out, as `Table::release` does.
 #[unsafe(no_mangle)]
 pub extern "C" fn rht_release_begin(
-    alloc: Global,
     handle: &mut Handle,
     port: CPort,
     owner: u32,
@@ -67,13 +63,12 @@ pub extern "C" fn rht_release_begin(
     ensures begun { HasBegun (Release (port_said port) owner) handle.old reply.old result reply.new handle.new }
 {
     let port = port.port();
-    told(handle.begin(alloc, Call::Release { port, owner }), reply)
+    told(handle.begin(Call::Release { port, owner }), reply)
 }
 
 /// Begins to put a new owner in the place of this one, as `Table::rebind` does.
 #[unsafe(no_mangle)]
 pub extern "C" fn rht_rebind_begin(
-    alloc: Global,
     handle: &mut Handle,
     port: CPort,
     owner: u32,
@@ -89,46 +84,36 @@ pub extern "C" fn rht_rebind_begin(
         owner,
         new: with,
     };
-    told(handle.begin(alloc, call), reply)
+    told(handle.begin(call), reply)
 }
 
 /// Begins to list the owners of a port, as `Table::all` does.
 #[unsafe(no_mangle)]
-pub extern "C" fn rht_all_begin(
-    alloc: Global,
-    handle: &mut Handle,
-    port: CPort,
-    reply: &mut CReply,
-) -> u32
+pub extern "C" fn rht_all_begin(handle: &mut Handle, port: CPort, reply: &mut CReply) -> u32
     requires { IsFitHandle handle.old }
     ensures fit { IsFitHandle handle.new }
     ensures begun { HasBegun (All (port_said port)) handle.old reply.old result reply.new handle.new }
 {
     let port = port.port();
-    told(handle.begin(alloc, Call::All { port }), reply)
+    told(handle.begin(Call::All { port }), reply)
 }
 
 /// Begins to resize the table where that is due, as `Table::work` does.
 #[unsafe(no_mangle)]
-pub extern "C" fn rht_work_begin(alloc: Global, handle: &mut Handle, reply: &mut CReply) -> u32
+pub extern "C" fn rht_work_begin(handle: &mut Handle, reply: &mut CReply) -> u32
     requires { IsFitHandle handle.old }
     ensures fit { IsFitHandle handle.new }
     ensures begun { HasBegun Work handle.old reply.old result reply.new handle.new }
 {
-    told(handle.begin(alloc, Call::Work), reply)
+    told(handle.begin(Call::Work), reply)
 }
 
 /// Goes on with the call in progress, as `Handle::go_on`.
 #[unsafe(no_mangle)]
-pub extern "C" fn rht_go_on(
-    alloc: Global,
-    handle: &mut Handle,
-    steps: u32,
-    reply: &mut CReply,
-) -> u32
+pub extern "C" fn rht_go_on(handle: &mut Handle, steps: u32, reply: &mut CReply) -> u32
     requires { IsFitHandle handle.old }
     ensures fit { IsFitHandle handle.new }
     ensures gone_on { HasGoneOn steps handle.old reply.old result reply.new handle.new }
 {
-    told(handle.go_on(alloc, steps), reply)
+    told(handle.go_on(steps), reply)
 }

@@ -8,22 +8,20 @@ ghost use Rattle.rht_session.specs.Handles.{IsFitHandle};
 ghost use Rattle.rht_c.specs.Exports.{HasFound, HasMade};
 
 use rht_session::{CCursor, CPort, CReply, Handle, told_found, told_whole};
-use std::alloc::Global;
 
 /// Looks a port up, as `Handle::find`. Where it is found its first owner is written.
 #[unsafe(no_mangle)]
-pub extern "C" fn rht_find(alloc: Global, handle: &mut Handle, port: CPort, owner: &mut u32) -> u32
+pub extern "C" fn rht_find(handle: &mut Handle, port: CPort, owner: &mut u32) -> u32
     requires { IsFitHandle handle.old }
     ensures fit { IsFitHandle handle.new }
     ensures found { HasFound (port_said port) handle.old owner.old result owner.new handle.new }
 {
-    told_found(handle.find(alloc, port.port()), owner)
+    told_found(handle.find(port.port()), owner)
 }
 
 /// Walks the table, as `Handle::walk`, from the cursor on.
 #[unsafe(no_mangle)]
 pub extern "C" fn rht_walk(
-    alloc: Global,
     handle: &mut Handle,
     from: CCursor,
     limit: u32,
@@ -33,25 +31,25 @@ pub extern "C" fn rht_walk(
     ensures fit { IsFitHandle handle.new }
     ensures made { HasMade (Walk (cursor_said from) limit) handle.old reply.old result reply.new handle.new }
 {
-    told_whole(handle.walk(alloc, from.cursor(), limit), reply)
+    told_whole(handle.walk(from.cursor(), limit), reply)
 }
 
 /// Gives nodes back, as `Handle::tidy`.
 #[unsafe(no_mangle)]
-pub extern "C" fn rht_tidy(alloc: Global, handle: &mut Handle, reply: &mut CReply) -> u32
+pub extern "C" fn rht_tidy(handle: &mut Handle, reply: &mut CReply) -> u32
     requires { IsFitHandle handle.old }
     ensures fit { IsFitHandle handle.new }
     ensures made { HasMade Tidy handle.old reply.old result reply.new handle.new }
 {
-    told_whole(handle.tidy(alloc), reply)
+    told_whole(handle.tidy(), reply)
 }
 
 /// Counts the bound ports, as `Handle::count`.
 #[unsafe(no_mangle)]
-pub extern "C" fn rht_count(alloc: Global, handle: &mut Handle, reply: &mut CReply) -> u32
+pub extern "C" fn rht_count(handle: &mut Handle, reply: &mut CReply) -> u32
     requires { IsFitHandle handle.old }
     ensures fit { IsFitHandle handle.new }
     ensures made { HasMade Count handle.old reply.old result reply.new handle.new }
 {
-    told_whole(handle.count(alloc), reply)
+    told_whole(handle.count(), reply)
 }

@@ -129,11 +129,18 @@ module _ {M : Type 0} (mix : ℕ → ℕ → ℕ → ℕ) (kind : Shared M → S
     pub own : IfSome table (λ (a : Arc (Table M) Global). arc_value a ≡ t)
 
   -- which kind the session at a place is of
-  pub kind_at : (shared : List (Shared M)) (place : ℕ) (session : Session) → place < length (map kind shared)
+  kind_at : (shared : List (Shared M)) (place : ℕ) (session : Session) → place < length (map kind shared)
       → session ≡ get_or (map kind shared) place session → (s : Shared M) × (session ≡ kind s)
   kind_at [] place session below is = absurd (omega (arith, below))
   kind_at (s ∷ shared) zero session below is = (s, is)
   kind_at (s ∷ shared) (suc place) session below is = kind_at shared place session (omega (arith, below)) is
+
+  -- among sessions that are all of this kind
+  pub kind_among : (all : List Session) (shared : List (Shared M)) → all ≡ map kind shared → (place : ℕ) → place < length all
+      → (session : Session) → session ≡ get_or all place session → (s : Shared M) × (session ≡ kind s)
+  kind_among all shared are place below session at =
+      kind_at shared place session (subst (λ (l : List Session). place < length l) are below)
+      (at ∙ ap (λ (l : List Session). get_or l place session) are)
 
   module _ (all : List Session) (space : ClosingSpace) where
     -- the pass of one more

@@ -1,12 +1,12 @@
 -- A handle stays fit where its session does, and where a call is refused.
-use Rattle.std.proofs.Common.{◌≡◌, Bool, true, false, [], ◌∷◌, sym, subst}
+use Rattle.std.proofs.Common.{Bool, true, false, sym, subst}
 use Rattle.std.specs.List.{AllByRecursion}
 use Rattle.rht_session.specs.declared.session.Session.{Session}
 use Rattle.rht_session.specs.declared.handle.Handle.{Handle}
 use Rattle.rht_session.specs.declared.refused.Refused.{Refused}
 use Rattle.rht_session.specs.declared.refused.Refused.TheVariants.{NotOpen, InCall, NoCall, NoSteps}
 use Rattle.rht_session.specs.Sessions.{IsFit}
-use Rattle.rht_session.specs.Handles.{sessions_of, IsBlank, Holds, IsFitHandle, Stays, IsNotFree, IsNotBusy}
+use Rattle.rht_session.specs.Handles.{IsBlank, Holds, IsFitHandle, Stays, IsNotFree, IsNotBusy}
 
 pub blank_fit : (handle : Handle) → IsBlank handle → IsFitHandle handle
 blank_fit handle blank = subst (AllByRecursion IsFit) (sym blank) tt

@@ -1,6 +1,6 @@
 -- A pass that goes on with its call, operation by operation. Each leaves it in the call, or ends that; and whichever call it is in, with
 -- so many operations behind it, it has as many more.
-use Rattle.std.proofs.Common.{◌≡◌, ℕ, ◌+◌, ◌<◌, ◌≤◌, true, false, List, [], ◌∷◌, ◌++◌, length, refl, sym, ap, ◌∙◌, subst, arith}
+use Rattle.std.proofs.Common.{◌≡◌, ℕ, ◌+◌, ◌<◌, false, List, [], ◌∷◌, ◌++◌, length, refl, sym, ap, ◌∙◌, subst, arith}
 use Rattle.std.proofs.lemmas.List.{length_push}
 use Rattle.std.specs.Prelude.{Option, Some, None}
 use Rattle.rht_model.specs.declared.history.Call.{Call}
@@ -11,7 +11,7 @@ use Rattle.rht_core.specs.Laws.{view_stepped}
 use Rattle.rht_core.proofs.Events.BusyCallers.{goes_on, ends}
 use Rattle.rht_run.specs.declared.table.Table.{Table}
 use Rattle.rht_run.specs.declared.pass.Pass.{Pass}
-use Rattle.rht_run.specs.Passes.{IsPassOf, IsSamePass, IsCalling, HasCalled, Turned, HasGone, seen_by}
+use Rattle.rht_run.specs.Passes.{IsPassOf, IsSamePass, IsCalling, Turned, HasGone, seen_by}
 use Rattle.rht_session.specs.Sessions.{view_behind, HasGoneOn}
 use Rattle.rht_session.proofs.CallEnds.{ended}
 

@@ -1,28 +1,23 @@
--- What a call on a handle leaves: the session was taken out of its box, has made the call, and was put back.
-use Rattle.std.proofs.Common.{◌≡◌, Bool, List, [], ◌∷◌, sym, ap, ◌∙◌, subst}
+-- What a call on a handle leaves: the session was asked whether it is in a call, and then it was lent and made the call.
+use Rattle.std.proofs.Common.{◌≡◌, Bool, [], ◌∷◌, sym, ap, ◌∙◌}
 use Rattle.rht_session.specs.declared.session.Session.{Session}
 use Rattle.rht_session.specs.declared.handle.Handle.{Handle}
 use Rattle.rht_session.specs.Sessions.{is_free}
-use Rattle.rht_session.specs.Handles.{sessions_of, Holds, Changes, Stays}
+use Rattle.rht_session.specs.Handles.{sessions_of, Holds, Changes}
 
-module _ {free : Bool} {before after : Handle} where
-  -- the call was made by what the box was lent as
-  pub changes : {Made : Session → Session → Type 0} (boxed lent new : Session) → lent ≡ boxed → Holds before boxed → is_free boxed ≡ free
+module _ {free : Bool} {before after : Handle} (asked : Handle) where
+  -- asking has changed no session, so the one that was lent is the handle's
+  pub changes : {Made : Session → Session → Type 0} → sessions_of asked ≡ sessions_of before
+      → (session : Session) × Holds asked session × (is_free session ≡ free) → (lent new : Session) → Holds asked lent
       → Holds after new → Made lent new → Changes free Made before after
-  changes boxed lent new same had was has made = record {
-    old = lent;
-    new = new;
-    had = had ∙ ap (λ (s : Session). s ∷ []) (sym same);
-    has = has;
-    was = ap is_free same ∙ was;
-    made = made;
-  }
-
-  -- no call was made
-  pub stays : (boxed lent : Session) → lent ≡ boxed → Holds before boxed → is_free lent ≡ free → Holds after boxed → Stays free before after
-  stays boxed lent same had is has = record {
-    session = boxed;
-    had = had;
-    has = has;
-    is = ap is_free (sym same) ∙ is;
-  }
+  changes same was lent new holds has made =
+      let both : was.0 ∷ [] ≡ lent ∷ [] = sym was.1 ∙ holds in
+      let one : was.0 ≡ lent = cc in
+      record {
+        old = lent;
+        new = new;
+        had = sym same ∙ holds;
+        has = has;
+        was = ap is_free (sym one) ∙ was.2;
+        made = made;
+      }

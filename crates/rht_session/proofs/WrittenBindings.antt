@@ -1,9 +1,8 @@
 -- Bindings that are written into a room, a pair for each owner of each port.
-use Rattle.std.proofs.Common.{◌≡◌, ℕ, zero, suc, ◌+◌, ◌<◌, ◌≤◌, List, [], ◌∷◌, ◌++◌, length, map, take, drop, get_or, set, refl, sym, ap, ◌∙◌, subst, append_assoc, append-nil, arith}
+use Rattle.std.proofs.Common.{◌≡◌, ℕ, zero, suc, ◌+◌, ◌<◌, ◌≤◌, List, [], ◌∷◌, ◌++◌, length, map, take, drop, get_or, set, sym, ap, ◌∙◌, append_assoc, append-nil, arith}
 use Rattle.std.specs.Prelude.{Some, slice_get}
 use Rattle.std.proofs.lemmas.List.{take_all, take-append-le, length-take-le, length-drop, length-append, drop_more, set_at, map_more, map_push, length_push}
 use Rattle.rht_model.specs.Listing.{ports_of, owners_of}
-use Rattle.rht_session.specs.declared.plain.CPair.{CPair}
 use Rattle.rht_session.specs.Plain.{c_pair}
 use Rattle.rht_session.specs.Lists.{owned, all_owned, IsWritten}
 

@@ -34,6 +34,10 @@ Holds handle session = sessions_of handle ≡ session ∷ []
 abbrev pub HadFree : Handle → Type 0
 HadFree handle = (session : Session) × Holds handle session × (is_free session ≡ true)
 
+-- it has one, in a call
+abbrev pub HadBusy : Handle → Type 0
+HadBusy handle = (session : Session) × Holds handle session × (is_free session ≡ false)
+
 -- It is blank, or the pass of its session is one of its session's table. So it is of each handle that a call has left.
 abbrev pub IsFitHandle : Handle → Type 0
 IsFitHandle handle = AllByRecursion IsFit (sessions_of handle)

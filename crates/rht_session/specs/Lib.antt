@@ -1,5 +1,7 @@
 -- what an address owns
 pub mod Held
+-- what lending a session leaves of its address
+pub mod Lending
 -- what calls leave of a session
 pub mod Sessions
 -- what of a list is shown in a room

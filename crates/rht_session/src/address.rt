@@ -1,8 +1,10 @@
-//! The address of a session, or of none. It is the only place that has a raw pointer.
+//! The address of a session, or of none. Only this module, `lending` below it and `parts` have raw pointers.
 
 ghost use Rattle.std.specs.Prelude.{◌≡◌, List, [], ◌∷◌};
 ghost use Rattle.rht_session.specs.Held.{sessions_coded, address_owns};
 ghost use Rattle.rht_session.specs.declared.session.Session.{Session as SessionOf};
+
+mod lending;
 
 use crate::parts::Parts;
 use crate::session::Session;

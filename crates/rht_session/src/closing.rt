@@ -182,9 +182,13 @@ fn mixed_closed(
     let mut passes = passes;
     let mut table = None;
     for session in sessions {
-        if let Session::Mix(Shared { table: own, pass }) = Box::into_inner(session) {
-            table = Some(own);
-            passes.push_reserved(pass);
+        match Box::into_inner(session) {
+            Session::Mix(Shared { table: own, pass }) => {
+                table = Some(own);
+                passes.push_reserved(pass);
+            }
+            // All are of one table, so none is of the other hash.
+            Session::Low(other) => drop(other),
         }
     }
     ended(table?, passes, space)
@@ -204,9 +208,13 @@ fn low_closed(
     let mut passes = passes;
     let mut table = None;
     for session in sessions {
-        if let Session::Low(Shared { table: own, pass }) = Box::into_inner(session) {
-            table = Some(own);
-            passes.push_reserved(pass);
+        match Box::into_inner(session) {
+            Session::Low(Shared { table: own, pass }) => {
+                table = Some(own);
+                passes.push_reserved(pass);
+            }
+            // All are of one table, so none is of the other hash.
+            Session::Mix(other) => drop(other),
         }
     }
     ended(table?, passes, space)

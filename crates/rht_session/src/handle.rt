@@ -31,7 +31,7 @@ impl Handle {
     ghost use Rattle.rht_model.specs.declared.history.Call.TheVariants.{Find, Walk, Tidy, Count};
     ghost use Rattle.rht_session.specs.Held.{is_some};
     ghost use Rattle.rht_session.specs.Sessions.{is_free, owners_of, pairs_of, Ends, LooksUp, Begins};
-    ghost use Rattle.rht_session.specs.Handles.{sessions_of, IsBlank, Holds, HadFree, IsFitHandle, IsNotFree, IsNotBusy, IsAnswered, IsGoneOn, Shows};
+    ghost use Rattle.rht_session.specs.Handles.{sessions_of, IsBlank, Holds, HadFree, HadBusy, IsFitHandle, IsNotFree, IsNotBusy, IsAnswered, IsGoneOn, Shows};
 
     /// A handle without a session.
     pub fn blank(alloc: Global) -> Handle
@@ -82,104 +82,89 @@ impl Handle {
         replace(self, Handle::blank(alloc)).into_box()
     }
 
-    /// Takes the session out where it is in no call.
-    fn take_free(&mut self, alloc: Global) -> Result<Box<Session>, Refused>
-        ensures taken { IfOk result (λ session. Holds self.old session.value × (is_free session.value ≡ true) × IsBlank self.new) }
+    /// Whether a call can be made that asks for a session in no call, and otherwise why not.
+    fn need_free(&mut self) -> Result<(), Refused>
+        ensures same { sessions_of self.new ≡ sessions_of self.old }
+        ensures free { IfOk result (λ _. HadFree self.new) }
         ensures refused { IfErr result (λ refused. IsNotFree refused self.old self.new) }
     {
-        let Some(session) = self.take(alloc) else {
+        if !self.in_use {
             return Err(Refused::NotOpen);
-        };
-        if session.is_free() {
-            return Ok(session);
         }
-        *self = Handle::of(session);
-        Err(Refused::InCall)
+        if !self.address.session().is_free() {
+            return Err(Refused::InCall);
+        }
+        Ok(())
     }
 
-    /// Takes the session out where it is in a call.
-    fn take_busy(&mut self, alloc: Global) -> Result<Box<Session>, Refused>
-        ensures taken { IfOk result (λ session. Holds self.old session.value × (is_free session.value ≡ false) × IsBlank self.new) }
+    /// Whether a call can be gone on with, and otherwise why not.
+    fn need_busy(&mut self) -> Result<(), Refused>
+        ensures same { sessions_of self.new ≡ sessions_of self.old }
+        ensures busy { IfOk result (λ _. HadBusy self.new) }
         ensures refused { IfErr result (λ refused. IsNotBusy refused self.old self.new) }
     {
-        let Some(session) = self.take(alloc) else {
+        if !self.in_use {
             return Err(Refused::NotOpen);
-        };
-        if !session.is_free() {
-            return Ok(session);
         }
-        *self = Handle::of(session);
-        Err(Refused::NoCall)
+        if self.address.session().is_free() {
+            return Err(Refused::NoCall);
+        }
+        Ok(())
     }
 
     /// Looks a port up, as `Session::find`. Refused are `NotOpen` and `InCall`.
-    pub fn find(&mut self, alloc: Global, port: Port) -> Result<Reply, Refused>
+    pub fn find(&mut self, port: Port) -> Result<Reply, Refused>
         requires { IsFitHandle self.old }
         ensures fit { IsFitHandle self.new }
         ensures answer { IsAnswered (λ reply old new. Ends (Find port) reply old new × LooksUp port reply old new) self.old result self.new }
     {
-        let mut session = self.take_free(alloc)?;
-        let reply = session.find(port);
-        *self = Handle::of(session);
-        Ok(reply)
+        self.need_free()?;
+        Ok(self.address.session().find(port))
     }
 
     /// Walks the table, as `Session::walk`. Refused are `NotOpen` and `InCall`.
-    pub fn walk(
-        &mut self,
-        alloc: Global,
-        from: Option<Cursor>,
-        limit: u32,
-    ) -> Result<Reply, Refused>
+    pub fn walk(&mut self, from: Option<Cursor>, limit: u32) -> Result<Reply, Refused>
         requires { IsFitHandle self.old }
         ensures fit { IsFitHandle self.new }
         ensures answer { IsAnswered (Ends (Walk from limit)) self.old result self.new }
     {
-        let mut session = self.take_free(alloc)?;
-        let reply = session.walk(from, limit);
-        *self = Handle::of(session);
-        Ok(reply)
+        self.need_free()?;
+        Ok(self.address.session().walk(from, limit))
     }
 
     /// Gives nodes back, as `Session::tidy`. Refused are `NotOpen` and `InCall`.
-    pub fn tidy(&mut self, alloc: Global) -> Result<Reply, Refused>
+    pub fn tidy(&mut self) -> Result<Reply, Refused>
         requires { IsFitHandle self.old }
         ensures fit { IsFitHandle self.new }
         ensures answer { IsAnswered (Ends Tidy) self.old result self.new }
     {
-        let mut session = self.take_free(alloc)?;
-        let reply = session.tidy();
-        *self = Handle::of(session);
-        Ok(reply)
+        self.need_free()?;
+        Ok(self.address.session().tidy())
     }
 
     /// Counts the bound ports, as `Session::count`. Refused are `NotOpen` and `InCall`.
-    pub fn count(&mut self, alloc: Global) -> Result<Reply, Refused>
+    pub fn count(&mut self) -> Result<Reply, Refused>
         requires { IsFitHandle self.old }
         ensures fit { IsFitHandle self.new }
         ensures answer { IsAnswered (Ends Count) self.old result self.new }
     {
-        let mut session = self.take_free(alloc)?;
-        let reply = session.count();
-        *self = Handle::of(session);
-        Ok(reply)
+        self.need_free()?;
+        Ok(self.address.session().count())
     }
 
     /// Begins a call, as `Session::begin`. Refused are `NotOpen` and `InCall`.
-    pub fn begin(&mut self, alloc: Global, call: Call) -> Result<Option<Reply>, Refused>
+    pub fn begin(&mut self, call: Call) -> Result<Option<Reply>, Refused>
         requires { IsFitHandle self.old }
         ensures fit { IsFitHandle self.new }
         ensures answer { IsAnswered (Begins call) self.old result self.new }
     {
-        let mut session = self.take_free(alloc)?;
-        let reply = session.begin(call);
-        *self = Handle::of(session);
-        Ok(reply)
+        self.need_free()?;
+        Ok(self.address.session().begin(call))
     }
 
     /// Goes on with the call in progress, as `Session::go_on`. Refused are `NoSteps` where `most` is 0,
     /// `NotOpen` and `NoCall`, of which the first that holds is answered.
-    pub fn go_on(&mut self, alloc: Global, most: u32) -> Result<Option<Reply>, Refused>
+    pub fn go_on(&mut self, most: u32) -> Result<Option<Reply>, Refused>
         requires { IsFitHandle self.old }
         ensures fit { IsFitHandle self.new }
         ensures answer { IsGoneOn most self.old result self.new }
@@ -187,42 +172,31 @@ impl Handle {
         if most == 0 {
             return Err(Refused::NoSteps);
         }
-        let mut session = self.take_busy(alloc)?;
-        let reply = session.go_on(most);
-        *self = Handle::of(session);
-        Ok(reply)
+        self.need_busy()?;
+        Ok(self.address.session().go_on(most))
     }
 
     /// Writes the owners that came with the last call, from the place `skip` on, as many as there is room for,
     /// and says how many these are, as `Session::owners`. Refused are `NotOpen` and `InCall`.
-    pub fn owners(&mut self, alloc: Global, skip: usize, into: &mut [u32]) -> Result<usize, Refused>
+    pub fn owners(&mut self, skip: usize, into: &mut [u32]) -> Result<usize, Refused>
         requires { IsFitHandle self.old }
         ensures fit { IsFitHandle self.new }
         ensures answer { IsAnswered (Shows owners_of skip into.old into.new) self.old result self.new }
         ensures same { IfErr result (λ _. into.new ≡ into.old) }
     {
-        let session = self.take_free(alloc)?;
-        let count = write_owners(session.owners(), skip, into);
-        *self = Handle::of(session);
-        Ok(count)
+        self.need_free()?;
+        Ok(write_owners(self.address.session().owners(), skip, into))
     }
 
     /// Writes the pairs that came with the last call, as `owners` does with owners.
-    pub fn pairs(
-        &mut self,
-        alloc: Global,
-        skip: usize,
-        into: &mut [CPair],
-    ) -> Result<usize, Refused>
+    pub fn pairs(&mut self, skip: usize, into: &mut [CPair]) -> Result<usize, Refused>
         requires { IsFitHandle self.old }
         ensures fit { IsFitHandle self.new }
         ensures answer { IsAnswered (Shows (λ s. map c_pair (pairs_of s)) skip into.old into.new) self.old result self.new }
         ensures same { IfErr result (λ _. into.new ≡ into.old) }
     {
-        let session = self.take_free(alloc)?;
-        let count = write_pairs(session.pairs(), skip, into);
-        *self = Handle::of(session);
-        Ok(count)
+        self.need_free()?;
+        Ok(write_pairs(self.address.session().pairs(), skip, into))
     }
 
     /// Closes the handle, which is blank then. Its number is given to no other. The nodes that its calls took out
@@ -234,7 +208,8 @@ impl Handle {
         ensures closed { IfOk result (λ _. IsBlank self.new × HadFree self.old) }
         ensures refused { IfErr result (λ refused. IsNotFree refused self.old self.new) }
     {
-        drop(self.take_free(alloc)?);
+        self.need_free()?;
+        drop(self.take(alloc));
         Ok(())
     }
 }

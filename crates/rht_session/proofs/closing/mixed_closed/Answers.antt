@@ -1,4 +1,4 @@
-use Rattle.std.proofs.Common.{◌≡◌, ℕ, ◌+◌, ◌<◌, List, length, map, get_or, sym, ap, ◌∙◌, subst, arith}
+use Rattle.std.proofs.Common.{◌≡◌, ◌+◌, ◌<◌, List, length, map, get_or, sym, ap, ◌∙◌, subst, arith}
 use Rattle.std.specs.Prelude.{Some}
 use Rattle.std.proofs.lemmas.List.{length-map, get_or-map, length_push}
 use Rattle.std.proofs.lemmas.Iterator.Adapters.{YieldsList-from_vec}
@@ -7,9 +7,8 @@ use Rattle.rht_policy.specs.declared.mix.Lookup3.{Lookup3}
 use Rattle.rht_policy.specs.Mix.{final_mix}
 use Rattle.rht_run.specs.declared.pass.Pass.{Pass}
 use Rattle.rht_session.specs.declared.shared.Shared.{Shared}
-use Rattle.rht_session.specs.declared.session.Session.{Session}
 use Rattle.rht_session.specs.declared.session.Session.TheVariants as kinds
-use Rattle.rht_session.proofs.ClosedSessions.{IsGathered, mixed_of, gathers, kind_at, all_passes, closed_over}
+use Rattle.rht_session.proofs.ClosedSessions.{IsGathered, mixed_of, gathers, kind_among, all_passes, closed_over}
 use Rattle.rht_session.proofs.closing.mixed_closed.Goals as goal
 
 same_kind : (a b : Shared Lookup3) → kinds.Mix a ≡ kinds.Mix b → a ≡ b
@@ -17,16 +16,6 @@ same_kind a b e = cc
 
 other_kind : (a : Shared _) (b : Shared _) → kinds.Mix a ≡ kinds.Low b → ⊥
 other_kind a b e = absurd cc
-
--- a session that comes up shares the table, so it is of its hash
-never : (all : List Session) (shared : List (Shared Lookup3)) → all ≡ map kinds.Mix shared → (place : ℕ) → place < length all → (session : Session)
-    → session ≡ get_or all place session → ((s : Shared Lookup3) → session ≡ kinds.Mix s → ⊥) → ⊥
-never all shared are place below session at other =
-    let same : session ≡ get_or (map kinds.Mix shared) place session =
-    at ∙ ap (λ (l : List Session). get_or l place session) are in
-    let inside : place < length (map kinds.Mix shared) = subst (λ (l : List Session). place < length l) are below in
-    let is = kind_at final_mix kinds.Mix shared place session inside same in
-    other is.0 is.1
 
 pub push_reserved-requires : goal.push_reserved-requires
 push_reserved-requires c =
@@ -82,29 +71,19 @@ loop-session-preserved-in-Mix c =
       many = omega (arith, many, pushed.len, longer);
     }
 
-pub loop-session-preserved-in_default : goal.loop-session-preserved-in_default
-loop-session-preserved-in_default c =
+pub loop-session-preserved : goal.loop-session-preserved
+loop-session-preserved c =
     let all = map (λ b. b.value) c.args.sessions.items in
     let session = c.in-Some.session in
+    let made = length c.loop-session.yielded in
+    let are = c.loop-session.invariant.gathered.are in
     let turn = YieldsList-turn (YieldsList-from_vec c.args.sessions.items (cc) (cc)) c.loop-session.yielded c.loop-session.session-iterator
     c.loop-session.yielded_by c.next.result c.next.new.self session c.in-Some.is c.next.ensures.steps in
-    let at : session.value ≡ get_or all (length c.loop-session.yielded) session.value =
-    ap (λ b. b.value) turn.1 ∙ sym (get_or-map (λ b. b.value) c.args.sessions.items (length c.loop-session.yielded) session session.value turn.0) in
-    let below : length c.loop-session.yielded < length all = omega (arith, turn.0, length-map c.args.sessions.items (λ b. b.value)) in
-    absurd (never all c.loop-session.invariant.gathered.are.shared c.loop-session.invariant.gathered.are.all_are
-    (length c.loop-session.yielded) below session.value at (λ s e. c.in_default.not-Mix s (c.into_inner.ensures ∙ e)))
-
-pub loop-session-preserved-in_default-2 : goal.loop-session-preserved-in_default-2
-loop-session-preserved-in_default-2 c =
-    let all = map (λ b. b.value) c.args.sessions.items in
-    let session = c.in-Some.session in
-    let turn = YieldsList-turn (YieldsList-from_vec c.args.sessions.items (cc) (cc)) c.loop-session.yielded c.loop-session.session-iterator
-    c.loop-session.yielded_by c.next.result c.next.new.self session c.in-Some.is c.next.ensures.steps in
-    let at : session.value ≡ get_or all (length c.loop-session.yielded) session.value =
-    ap (λ b. b.value) turn.1 ∙ sym (get_or-map (λ b. b.value) c.args.sessions.items (length c.loop-session.yielded) session session.value turn.0) in
-    let below : length c.loop-session.yielded < length all = omega (arith, turn.0, length-map c.args.sessions.items (λ b. b.value)) in
-    absurd (never all c.loop-session.invariant.gathered.are.shared c.loop-session.invariant.gathered.are.all_are
-    (length c.loop-session.yielded) below session.value at (λ s e. c.in_default.not-Mix s (c.into_inner.ensures ∙ e)))
+    let at : session.value ≡ get_or all made session.value =
+    ap (λ b. b.value) turn.1 ∙ sym (get_or-map (λ b. b.value) c.args.sessions.items made session session.value turn.0) in
+    let below : made < length all = omega (arith, turn.0, length-map c.args.sessions.items (λ b. b.value)) in
+    let its = kind_among final_mix kinds.Mix all are.shared are.all_are made below session.value at in
+    absurd (other_kind its.0 c.in-Low.other (sym its.1 ∙ sym c.into_inner.ensures ∙ c.in-Low.is))
 
 pub ended-requires-clause-passes : goal.ended-requires-clause-passes
 ended-requires-clause-passes c =

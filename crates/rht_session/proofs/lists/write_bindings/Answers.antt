@@ -1,4 +1,4 @@
-use Rattle.std.proofs.Common.{◌≡◌, List, map, take, sym, ap, ◌∙◌, subst}
+use Rattle.std.proofs.Common.{List, map, take, sym, ap, ◌∙◌, subst}
 use Rattle.std.proofs.lemmas.List.{map-append}
 use Rattle.rht_session.specs.declared.plain.CPair.{CPair}
 use Rattle.rht_session.specs.Plain.{c_pair}

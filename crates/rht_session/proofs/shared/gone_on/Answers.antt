@@ -1,4 +1,4 @@
-use Rattle.std.proofs.Common.{◌≡◌, ◌+◌, ◌<◌, ◌≤◌, subst, arith}
+use Rattle.std.proofs.Common.{◌≡◌, ◌+◌, ◌≤◌, subst, arith}
 use Rattle.rht_session.proofs.GoingOn.{IsOnItsWay, sets_out, goes_farther, comes_to, stops}
 use Rattle.rht_session.proofs.shared.gone_on.Goals as goal
 

@@ -1,8 +1,7 @@
+use Rattle.std.proofs.Common.{refl}
 use Rattle.rht_session.proofs.HandleCalls.{changes}
 use Rattle.rht_session.proofs.handle.Handle.begin.Goals as goal
 
 pub returns-clause-answer : goal.returns-clause-answer
 returns-clause-answer c =
-    let taken = c.in_ok-session.ensures.taken in
-    changes c.in_ok-session.session.value c.deref_mut.result.now c.begin-reply.new.self c.deref_mut.ensures.value taken.0 taken.1 c.of.ensures
-    c.begin-reply.ensures.begun
+    changes c.need_free.new.self c.need_free.ensures.same c.in_ok-need_free.ensures.free c.session.result.now c.begin.new.self c.session.ensures.value refl c.begin.ensures.begun

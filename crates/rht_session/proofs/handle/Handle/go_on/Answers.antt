@@ -1,8 +1,7 @@
+use Rattle.std.proofs.Common.{refl}
 use Rattle.rht_session.proofs.HandleCalls.{changes}
 use Rattle.rht_session.proofs.handle.Handle.go_on.Goals as goal
 
 pub returns-clause-answer : goal.returns-clause-answer
 returns-clause-answer c =
-    let taken = c.in_ok-session.ensures.taken in
-    changes c.in_ok-session.session.value c.deref_mut.result.now c.go_on-reply.new.self c.deref_mut.ensures.value taken.0 taken.1 c.of.ensures
-    c.go_on-reply.ensures.gone_on
+    changes c.need_busy.new.self c.need_busy.ensures.same c.in_ok-need_busy.ensures.busy c.session.result.now c.go_on.new.self c.session.ensures.value refl c.go_on.ensures.gone_on
