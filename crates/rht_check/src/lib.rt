@@ -12,8 +12,6 @@ pub mod laws;
 mod owner_list;
 mod port_map;
 mod reader;
-#[cfg(test)]
-mod tests;
 mod writer;
 
 pub use claim::{Claim, Verdict};

@@ -18,6 +18,3 @@ pub use memory::{MemSink, MemSource};
 pub use sink::{Sink, put_all};
 pub use source::{Failed, Source};
 pub use sure::{SureSink, SureSource};
-
-#[cfg(test)]
-mod tests;

@@ -14,8 +14,6 @@ mod leasing;
 mod outcome;
 mod reader;
 mod replies;
-#[cfg(test)]
-mod tests;
 mod worker;
 mod writer;
 

@@ -15,8 +15,6 @@ mod owners;
 mod pair_list;
 mod replies;
 mod room;
-#[cfg(test)]
-mod tests;
 
 pub use bindings::{Bindings, Closed};
 pub use finished::Finished;

@@ -14,8 +14,6 @@ mod replies;
 mod resume;
 mod resumed;
 mod resuming;
-#[cfg(test)]
-mod tests;
 mod worker;
 mod writer;
 

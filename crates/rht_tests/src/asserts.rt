@@ -1,9 +1,24 @@
-//! What many tests assert. Ports are wanted by their key words: that of a port of net 0 is its number.
+//! What many tests assert, and the table that they have. Ports are wanted by their key words: that of a port of net 0 is its number.
 
 use rht_model::Closed;
-use rht_words::{Port, word_of};
+use rht_words::{Config, Hash, Kind, Port, word_of};
 use std::fmt::Debug;
 use std::process::Abort;
+
+/// A small table with one caller.
+pub const SMALL: Config = Config {
+    kind: Kind::Single,
+    nodes: 8,
+    pages: 4,
+    callers: 1,
+    hint: 0,
+    min: 4,
+    max: 0,
+    seed: 1,
+    rewalks: 1,
+    hash: Hash::Low,
+    shrink: false,
+};
 
 /// Asserts that what was found is what is wanted.
 pub fn assert_same<T: Copy + Debug + PartialEq>(rt: &impl Abort, found: T, want: T) {

@@ -5,8 +5,7 @@ ghost use Rattle.std.specs.Prelude.{◌≡◌, true, IfSome};
 ghost use Rattle.rht_core.specs.Locals.{is_idle};
 ghost use Rattle.rht_run.specs.Passes.{IsPassOf, AreNew, IsNew};
 
-use crate::asserts::{assert_bound, assert_same};
-use crate::run::SMALL;
+use crate::asserts::{SMALL, assert_bound, assert_same};
 use crate::turns::InTurn;
 use rht_io::{Gate, NoGate};
 use rht_lease::{LeaseOutcome, LeaseReplies, LeaseReply, Leases, Swept, read_leases, run_leases};

@@ -6,8 +6,7 @@ ghost use Rattle.std.specs.Prelude.{◌≡◌, true, IfOk, IfSome};
 ghost use Rattle.rht_core.specs.Locals.{is_idle};
 ghost use Rattle.rht_run.specs.Passes.{IsPassOf, AreNew, IsNew};
 
-use crate::asserts::{assert_pairs, assert_same};
-use crate::run::SMALL;
+use crate::asserts::{SMALL, assert_pairs, assert_same};
 use crate::turns::InTurn;
 use rht_io::{Gate, MemSink, NoGate};
 use rht_policy::{Lookup3, Low, Mix};

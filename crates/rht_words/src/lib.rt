@@ -38,6 +38,3 @@ pub use port::{Port, owner_of, port_of, word_of};
 pub use shape::Shape;
 pub use sizes::{rounded_down, rounded_up, starting_size};
 pub use words::apply;
-
-#[cfg(test)]
-mod tests;

@@ -1,7 +1,7 @@
 //! Short histories of port 80, and whether they are legal.
 
-use super::{NET_3_PORT_80, assert_row};
-use crate::{Call, Cursor, Entry, Owners, Reply, is_legal};
+use crate::bindings::{NET_3_PORT_80, assert_row};
+use rht_model::{Call, Cursor, Entry, Owners, Reply, is_legal};
 use rht_words::{Kind, port_of};
 use std::alloc::{AllocError, Global};
 use std::process::Abort;

@@ -4,8 +4,7 @@ ghost use Rattle.std.specs.Prelude.{◌≡◌, true, IfSome};
 ghost use Rattle.rht_core.specs.Locals.{is_idle};
 ghost use Rattle.rht_run.specs.Passes.{IsPassOf, AreNew, IsNew};
 
-use crate::asserts::{assert_pairs, assert_same};
-use crate::run::SMALL;
+use crate::asserts::{SMALL, assert_pairs, assert_same};
 use rht_model::Reply;
 use rht_policy::{Low, Mix};
 use rht_run::{Pass, Table};

@@ -1,10 +1,8 @@
 //! What no clause says: that resume scripts are read at all, and where other bytes have their first fault; each
 //! worked out by hand from the rules of lines.
 
-use crate::reader::read_resume;
-use crate::replies::ResumeReplies;
-use crate::resume::{Piece, ResumeCall, ResumeReply};
 use rht_model::{Call, Reply};
+use rht_resume::{Piece, ResumeCall, ResumeReplies, ResumeReply, read_resume};
 use rht_script::{ReadError, ScriptFault};
 use rht_words::Port;
 use std::alloc::Global;

@@ -1,6 +1,6 @@
 //! Numbers worked out by hand from the layout and the formulas.
 
-use super::{
+use rht_words::{
     Config, Env, Geometry, Op, Port, Shape, apply, entry_of, future_of, head_of, is_locked,
     link_of, marker_of, node_of, opening_word, page_of, places, plain_of, port_of, rounded_down,
     rounded_up, slot_of, starting_size, unlocked, word_of,

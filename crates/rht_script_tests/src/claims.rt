@@ -1,6 +1,6 @@
 //! Claimed histories with ample memory, against verdicts and texts worked out by hand.
 
-use super::{check, read_claim, write_verdict};
+use rht_check::{check, read_claim, write_verdict};
 use rht_io::MemSink;
 use rht_script::{ReadError, ScriptFault};
 use std::alloc::Global;

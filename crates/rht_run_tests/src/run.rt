@@ -5,7 +5,7 @@ ghost use Rattle.std.specs.Prelude.{◌≡◌, true, IfOk, IfSome};
 ghost use Rattle.rht_core.specs.Locals.{is_idle};
 ghost use Rattle.rht_run.specs.Passes.{IsPassOf, AreNew, IsNew};
 
-use crate::asserts::{assert_bound, assert_pairs, assert_same};
+use crate::asserts::{SMALL, assert_bound, assert_pairs, assert_same};
 use crate::library::pair;
 use rht_model::{Call, Closed, Cursor, Reply};
 use rht_policy::{Low, Mix};
@@ -16,21 +16,6 @@ use std::process::Abort;
 use std::sync::Wait;
 use std::test::Fail;
 use std::thread::{Threads, join};
-
-/// A small table with one caller.
-pub const SMALL: Config = Config {
-    kind: Kind::Single,
-    nodes: 8,
-    pages: 4,
-    callers: 1,
-    hint: 0,
-    min: 4,
-    max: 0,
-    seed: 1,
-    rewalks: 1,
-    hash: Hash::Low,
-    shrink: false,
-};
 
 /// The only pass of a new table.
 fn only<M: Mix>(table: &Table<M>, mut passes: Vec<Pass<M>>) -> Option<Pass<M>>

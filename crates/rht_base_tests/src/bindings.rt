@@ -1,9 +1,7 @@
 //! The calls with ample memory, against pairs worked out by hand. In the rows a port is its key word, which
 //! is its number where it is of net 0.
 
-mod histories;
-
-use super::{Bindings, Owners, Replies, Reply, Room};
+use rht_model::{Bindings, Owners, Replies, Reply, Room};
 use rht_words::{Port, port_of, word_of};
 use std::alloc::{AllocError, Global};
 use std::fmt::Debug;
@@ -11,10 +9,10 @@ use std::process::Abort;
 use std::test::Fail;
 
 /// The port of net 3 with the number 80.
-const NET_3_PORT_80: u64 = 3 * (1 << 32) + 80;
+pub const NET_3_PORT_80: u64 = 3 * (1 << 32) + 80;
 
 /// Asserts that a value is this one in this row of a table.
-fn assert_row<R, T>(rt: &impl Abort, row: R, found: T, want: T)
+pub fn assert_row<R, T>(rt: &impl Abort, row: R, found: T, want: T)
 where
     R: Copy + Debug,
     T: Copy + Debug + PartialEq,

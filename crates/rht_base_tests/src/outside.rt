@@ -2,7 +2,7 @@
 
 ghost use Rattle.std.specs.Prelude.{◌≤◌, IfOk};
 
-use super::*;
+use rht_io::*;
 use std::fmt::Debug;
 use std::io;
 use std::process::Abort;

@@ -1,9 +1,7 @@
 //! What no clause says: that lease scripts are read at all, and where other bytes have their first fault; each
 //! worked out by hand from the rules of lines.
 
-use crate::lease::{Lease, LeaseCall, LeaseReply, Swept};
-use crate::reader::read_leases;
-use crate::replies::LeaseReplies;
+use rht_lease::{Lease, LeaseCall, LeaseReplies, LeaseReply, Swept, read_leases};
 use rht_model::{Call, Reply};
 use rht_script::{ReadError, ScriptFault};
 use rht_words::Port;

@@ -1,7 +1,7 @@
 use Rattle.std.proofs.Common.{◌≡◌, List, [], ◌∷◌, ◌++◌, ⊎_elim, ◌∙◌, ap, sym, subst}
 use Rattle.rht_run.specs.declared.pass.Pass.{Pass}
 use Rattle.rht_run.specs.Passes.{IsPassOf, Among}
-use Rattle.rht_tests.proofs.run.closed.Goals as goal
+use Rattle.rht_run_tests.proofs.run.closed.Goals as goal
 
 pub close-requires-clause-passes : goal.close-requires-clause-passes
 close-requires-clause-passes g c p among =
