@@ -12,7 +12,6 @@
 #include <pthread.h>
 #include <rht.h>
 #include <sched.h>
-#include <stdalign.h>
 #include <stdatomic.h>
 #include <stdio.h>
 #include <stdlib.h>
@@ -39,9 +38,9 @@ struct ports {
   u16 net;
 };
 
-/* What a thread has. A call writes to its handle, so those of two threads have cache lines of their own. */
+/* What a thread has. */
 struct job {
-  alignas(128) rht_handle handle;
+  rht_handle handle;
   struct gate *gate;
   struct ports ports;
   u32 rounds;

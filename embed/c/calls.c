@@ -617,6 +617,8 @@ static void moves(struct test *t)
 static void has_sixteen(struct test *t)
 {
     rht_handle all[16];
+    rht_pair pairs[16] = {0};
+    rht_closed closed = {0};
     uint32_t i;
     memset(all, 0, sizeof all);
     t->config.callers = 16;
@@ -626,8 +628,206 @@ static void has_sixteen(struct test *t)
     for (i = 16; i-- > 0;)
         REPLIES(t, rht_finish(&all[i], RHT_NOT_YET, &t->reply), RHT_BOUND, NOTHING);
     REPLIES(t, rht_count(&all[7], &t->reply), RHT_COUNTED, {.count = 16});
+    ANSWERS(t, rht_close_all(all, 16, pairs, 16, &closed), RHT_ENDED);
+    CHECK(t, closed.len == 16 && closed.keys == 16 && closed.size == 64);
     for (i = 0; i < 16; i++)
-        ANSWERS(t, rht_close(&all[i]), RHT_CLOSED);
+        CHECK(t, !all[i].in_use && pairs[i].port.number == i && pairs[i].owner == i);
+}
+
+/* how many pairs `bound` has, and the number in what no function has written */
+#define BOUND 8
+#define UNWRITTEN 77
+
+/* What a table is left with by bind_several, in the order in which it is to be written. Lists have the last three
+ * owners of port 0 in net 1, and single tables the last one of them. */
+static const rht_pair bound[BOUND] = {
+    {{3, 0}, 30}, {{9, 0}, 91}, {{UINT32_MAX, 0}, 1}, {{0, 1}, 11}, {{0, 1}, 12}, {{0, 1}, 11}, {{0, 1}, 10},
+    {{5, UINT16_MAX}, 0},
+};
+
+/* wanted: the pairs of the test's kind of table, of as many as there are */
+static size_t wanted(const struct test *t, rht_pair *pairs)
+{
+    size_t i, len = 0;
+    for (i = 0; i < BOUND; i++)
+        if (t->listed || i < 3 || i > 5)
+            pairs[len++] = bound[i];
+    return len;
+}
+
+/* Binds five ports, each by another handle than the one before, and not in their order. One more is bound and
+ * released, one has a new owner in the place of its old one. No handle tidies. */
+static void bind_several(struct test *t, rht_handle *first, rht_handle *second, rht_handle *third)
+{
+    ANSWERS(t, rht_bind(first, in_net(1, 0), 10, &t->reply), RHT_BOUND);
+    ANSWERS(t, rht_bind(second, in_net(UINT16_MAX, 5), 0, &t->reply), RHT_BOUND);
+    ANSWERS(t, rht_bind(third, port(9), 90, &t->reply), RHT_BOUND);
+    ANSWERS(t, rht_bind(first, port(UINT32_MAX), 1, &t->reply), RHT_BOUND);
+    ANSWERS(t, rht_bind(second, in_net(2, 3), 7, &t->reply), RHT_BOUND);
+    ANSWERS(t, rht_bind(third, port(3), 30, &t->reply), RHT_BOUND);
+    ANSWERS(t, rht_rebind(first, port(9), 90, 91, &t->reply), RHT_REBOUND);
+    ANSWERS(t, rht_release(third, in_net(2, 3), 7, &t->reply), RHT_RELEASED);
+    if (!t->listed)
+        return;
+    ANSWERS(t, rht_bind(second, in_net(1, 0), 11, &t->reply), RHT_BOUND);
+    ANSWERS(t, rht_bind(third, in_net(1, 0), 12, &t->reply), RHT_BOUND);
+    ANSWERS(t, rht_bind(first, in_net(1, 0), 11, &t->reply), RHT_BOUND);
+}
+
+/* Pairs and a struct that aren't written yet. */
+static void unwrite(rht_pair *pairs, size_t len, rht_closed *closed)
+{
+    size_t i;
+    for (i = 0; i < len; i++)
+        pairs[i] = (rht_pair){.port = {UNWRITTEN, UNWRITTEN}, .owner = UNWRITTEN};
+    *closed = (rht_closed){UNWRITTEN, UNWRITTEN, UNWRITTEN};
+}
+
+static bool is_pair(const rht_pair *a, const rht_pair *b)
+{
+    return a->port.net == b->port.net && a->port.number == b->port.number && a->owner == b->owner;
+}
+
+/* are_unwritten: whether these pairs are as unwrite has left them */
+static bool are_unwritten(const rht_pair *pairs, size_t len)
+{
+    const rht_pair not_yet = {.port = {UNWRITTEN, UNWRITTEN}, .owner = UNWRITTEN};
+    size_t i;
+    for (i = 0; i < len; i++)
+        if (!is_pair(&pairs[i], &not_yet))
+            return false;
+    return true;
+}
+
+/* has_ended: the handles are closed with their table, what bind_several has bound is written as far as there is room,
+ * and behind that nothing is */
+static void has_ended(struct test *t, rht_handle *handles, size_t count, size_t room)
+{
+    rht_pair left[BOUND], pairs[BOUND + 4];
+    rht_closed closed;
+    const size_t len = wanted(t, left), written = room < len ? room : len;
+    size_t i;
+    unwrite(pairs, BOUND + 4, &closed);
+    ANSWERS(t, rht_close_all(handles, count, pairs, room, &closed), RHT_ENDED);
+    CHECK(t, closed.len == written && closed.keys == 5 && closed.size == 64);
+    for (i = 0; i < written; i++)
+        CHECK(t, is_pair(&pairs[i], &left[i]));
+    CHECK(t, are_unwritten(pairs + written, BOUND + 4 - written));
+    for (i = 0; i < count; i++)
+        CHECK(t, !handles[i].in_use && rht_close(&handles[i]) == RHT_NOT_OPEN);
+}
+
+/* With any room, of none and of more than is needed. The handles can be opened again, and the table is a new one. */
+static void ends(struct test *t)
+{
+    size_t room;
+    for (room = 0; room <= BOUND + 2; room++) {
+        open_table(t, 3);
+        ANSWERS(t, rht_find(t->handles, port(3), &t->owner), RHT_MISSING);
+        bind_several(t, &t->handles[0], &t->handles[1], &t->handles[2]);
+        has_ended(t, t->handles, 3, room);
+    }
+    open_table(t, 1);
+    bind_several(t, t->handles, t->handles, t->handles);
+    has_ended(t, t->handles, 1, BOUND);
+}
+
+/* Nothing is bound, and nothing was ever. */
+static void ends_empty(struct test *t)
+{
+    rht_pair pair;
+    rht_closed closed;
+    unsigned i;
+    for (i = 0; i < 2; i++) {
+        t->config.hint = 3;
+        open_table(t, 2);
+        if (i == 1) {
+            bind_ports(t, 1, 1);
+            ANSWERS(t, rht_release(&t->handles[1], port(1), 1001, &t->reply), RHT_RELEASED);
+        }
+        unwrite(&pair, 1, &closed);
+        ANSWERS(t, rht_close_all(t->handles, 2, &pair, 1, &closed), RHT_ENDED);
+        CHECK(t, closed.len == 0 && closed.keys == 0 && closed.size == 4 && are_unwritten(&pair, 1));
+    }
+}
+
+/* In which places the handles of a table lie doesn't matter. */
+static void ends_in_any_order(struct test *t)
+{
+    const rht_handle blank = RHT_HANDLE_INIT;
+    rht_handle moved[3];
+    unsigned first, i;
+    for (first = 0; first < 3; first++) {
+        open_table(t, 3);
+        bind_several(t, &t->handles[2], &t->handles[0], &t->handles[1]);
+        for (i = 0; i < 3; i++) {
+            moved[(first + 2 * i) % 3] = t->handles[i];
+            t->handles[i] = blank;
+        }
+        has_ended(t, moved, 3, BOUND);
+    }
+}
+
+/* Where another handle is open nothing is written, and it goes on. It closes the table, alone or with others. */
+static void closes_some(struct test *t)
+{
+    rht_pair pairs[BOUND];
+    rht_closed closed;
+    rht_handle *last = &t->handles[3];
+    size_t some;
+    for (some = 1; some <= 3; some++) {
+        open_table(t, 4);
+        bind_several(t, &t->handles[0], &t->handles[1], &t->handles[2]);
+        unwrite(pairs, BOUND, &closed);
+        ANSWERS(t, rht_close_all(t->handles, some, pairs, BOUND, &closed), RHT_CLOSED);
+        CHECK(t, are_unwritten(pairs, BOUND));
+        CHECK(t, closed.len == UNWRITTEN && closed.keys == UNWRITTEN && closed.size == UNWRITTEN);
+        CHECK(t, !t->handles[0].in_use && !t->handles[some - 1].in_use && t->handles[some].in_use);
+        ANSWERS(t, rht_find(&t->handles[0], port(3), &t->owner), RHT_NOT_OPEN);
+        ANSWERS(t, rht_find(last, port(3), &t->owner), RHT_FOUND);
+        CHECK(t, t->owner == 30);
+        ANSWERS(t, rht_bind(last, port(4), 40, &t->reply), RHT_BOUND);
+        ANSWERS(t, rht_release(last, port(4), 40, &t->reply), RHT_RELEASED);
+        has_ended(t, &t->handles[some], 4 - some, BOUND);
+    }
+}
+
+/* Handles that were closed by themselves have left what they bound. The last one that closes so ends the table, and
+ * the handles of another table stay. */
+static void closes_each(struct test *t)
+{
+    rht_handle other[1] = {RHT_HANDLE_INIT};
+    rht_config config = t->config;
+    config.callers = 1;
+    ANSWERS(t, rht_open(&config, other, 1), RHT_OPENED);
+    ANSWERS(t, rht_bind(other, port(80), 1, &t->reply), RHT_BOUND);
+    open_table(t, 3);
+    bind_several(t, &t->handles[0], &t->handles[1], &t->handles[2]);
+    ANSWERS(t, rht_close(&t->handles[0]), RHT_CLOSED);
+    has_ended(t, &t->handles[1], 2, BOUND);
+    ANSWERS(t, rht_find(other, port(80), &t->owner), RHT_FOUND);
+    ANSWERS(t, rht_close(other), RHT_CLOSED);
+}
+
+/* Two tables are behind the first one, and so many times is worked. Ports of all tables are written, and the size is
+ * that of the table with which a walk would begin. */
+static void ends_behind_others(struct test *t)
+{
+    rht_pair pairs[131];
+    rht_closed closed;
+    uint32_t works, i;
+    for (works = 0; works < 3; works++) {
+        open_table(t, 2);
+        bind_ports(t, 0, 129);
+        for (i = 0; i < works; i++)
+            REPLIES(t, rht_work(&t->handles[1], &t->reply), RHT_MOVED, {.again = i == 0});
+        unwrite(pairs, 131, &closed);
+        ANSWERS(t, rht_close_all(t->handles, 2, pairs, 131, &closed), RHT_ENDED);
+        CHECK(t, closed.len == 130 && closed.keys == 130 && closed.size == 64U << works);
+        for (i = 0; i < 130; i++)
+            CHECK(t, pairs[i].port.net == 0 && pairs[i].port.number == i && pairs[i].owner == i + 1000);
+        CHECK(t, are_unwritten(pairs + 130, 1));
+    }
 }
 
 static const struct named tests[] = {
@@ -639,7 +839,9 @@ static const struct named tests[] = {
     {"goes_by_ones", goes_by_ones},
     {"goes_so_far", goes_so_far}, {"is_pending", is_pending}, {"tidies_twice", tidies_twice},
     {"is_elsewhere", is_elsewhere}, {"shares", shares}, {"opens_again", opens_again}, {"moves", moves},
-    {"has_sixteen", has_sixteen},
+    {"has_sixteen", has_sixteen}, {"ends", ends}, {"ends_empty", ends_empty},
+    {"ends_in_any_order", ends_in_any_order}, {"closes_some", closes_some}, {"closes_each", closes_each},
+    {"ends_behind_others", ends_behind_others},
 };
 
 int main(void) { return run_all("calls", tests, sizeof tests / sizeof *tests); }

@@ -163,6 +163,85 @@ WRAPPED(uint32_t, rht_go_on, (rht_handle * handle, uint32_t steps, rht_reply *re
         reply->len = 0;
     return code;
 }
+#elif LIE == 23 /* rht_close_all calls: the owners of a port come in another order */
+WRAPPED(uint32_t, rht_close_all,
+        (rht_handle * handles, size_t count, rht_pair *into, size_t room, rht_closed *closed))
+{
+    const uint32_t code = __real_rht_close_all(handles, count, into, room, closed);
+    size_t i;
+    for (i = 1; code == RHT_ENDED && i < closed->len; i++)
+        if (into[i].port.net == into[i - 1].port.net && into[i].port.number == into[i - 1].port.number) {
+            const uint32_t owner = into[i].owner;
+            into[i].owner = into[i - 1].owner;
+            into[i - 1].owner = owner;
+        }
+    return code;
+}
+#elif LIE == 24 /* rht_close_all calls: of handles beside an open one it is told what their table was */
+WRAPPED(uint32_t, rht_close_all,
+        (rht_handle * handles, size_t count, rht_pair *into, size_t room, rht_closed *closed))
+{
+    const uint32_t code = __real_rht_close_all(handles, count, into, room, closed);
+    if (code == RHT_CLOSED)
+        closed->len = 0;
+    return code;
+}
+#elif LIE == 25 /* rht_close_all calls: len has also the pairs for which there was no room */
+WRAPPED(uint32_t, rht_close_all,
+        (rht_handle * handles, size_t count, rht_pair *into, size_t room, rht_closed *closed))
+{
+    const uint32_t code = __real_rht_close_all(handles, count, into, room, closed);
+    if (code == RHT_ENDED && closed->len == room && closed->len < closed->keys)
+        closed->len = closed->keys;
+    return code;
+}
+#elif LIE == 26 /* rht_close_all wrong: the handles before a blank one are closed */
+WRAPPED(uint32_t, rht_close_all,
+        (rht_handle * handles, size_t count, rht_pair *into, size_t room, rht_closed *closed))
+{
+    const uint32_t code = __real_rht_close_all(handles, count, into, room, closed);
+    size_t i;
+    for (i = 0; code == RHT_NOT_OPEN && i < count && handles[i].in_use; i++)
+        rht_close(&handles[i]);
+    return code;
+}
+#elif LIE == 27 /* rht_close_all wrong: a pair is written where a handle is in a call */
+WRAPPED(uint32_t, rht_close_all,
+        (rht_handle * handles, size_t count, rht_pair *into, size_t room, rht_closed *closed))
+{
+    const uint32_t code = __real_rht_close_all(handles, count, into, room, closed);
+    if (code == RHT_IN_CALL && room > 1)
+        into[1].owner = 0;
+    return code;
+}
+#elif LIE == 28 /* rht_close_all memory: a handle is closed where memory has run out */
+WRAPPED(uint32_t, rht_close_all,
+        (rht_handle * handles, size_t count, rht_pair *into, size_t room, rht_closed *closed))
+{
+    const uint32_t code = __real_rht_close_all(handles, count, into, room, closed);
+    if (code == RHT_NO_MEMORY && count > 1)
+        rht_close(&handles[count - 1]);
+    return code;
+}
+#elif LIE == 29 /* rht_close_all memory: a block stays taken */
+WRAPPED(uint32_t, rht_close_all,
+        (rht_handle * handles, size_t count, rht_pair *into, size_t room, rht_closed *closed))
+{
+    static void *block;
+    const uint32_t code = __real_rht_close_all(handles, count, into, room, closed);
+    if (block == NULL && code == RHT_NO_MEMORY)
+        block = malloc(8);
+    return code;
+}
+#elif LIE == 30 /* rht_close_all threads: a port that was bound isn't written, and another one twice */
+WRAPPED(uint32_t, rht_close_all,
+        (rht_handle * handles, size_t count, rht_pair *into, size_t room, rht_closed *closed))
+{
+    const uint32_t code = __real_rht_close_all(handles, count, into, room, closed);
+    if (code == RHT_ENDED && closed->len > 100)
+        into[100] = into[99];
+    return code;
+}
 #else
 #error "there is no such lie"
 #endif

@@ -274,7 +274,7 @@ static void has_all_ports(struct test *t, const struct seat *seats, unsigned thr
     CHECK(t, t->owner == raised && raised > 0);
 }
 
-/* All nodes that aren't bound are free: just so many ports can be bound beside. */
+/* All nodes that aren't bound are free: just so many ports can be bound beside, in the net 20. */
 static void has_all_nodes(struct test *t, unsigned threads)
 {
     uint32_t i, left = NODES - (SHARED + 1 + (threads - 1) * OWN / 2);
@@ -286,6 +286,34 @@ static void has_all_nodes(struct test *t, unsigned threads)
             ANSWERS(t, rht_work(t->handles, &t->reply), RHT_MOVED);
     }
     REPLIES(t, rht_bind(t->handles, in_net(20, i), i, &t->reply), RHT_NO_NODE, NOTHING);
+}
+
+/* is_behind: whether a port comes behind another one */
+static bool is_behind(rht_port it, rht_port other)
+{
+    return it.net != other.net ? it.net > other.net : it.number > other.number;
+}
+
+/* The threads' handles are closed together. What is written then is just what they have left, and what was bound
+ * beside: each node has one pair, and no port two. */
+static void ends_with_all(struct test *t, const struct seat *seats, unsigned threads)
+{
+    rht_pair pairs[NODES] = {0};
+    rht_closed closed = {0};
+    const uint32_t left = SHARED + 1 + (threads - 1) * OWN / 2;
+    uint32_t raised = 0, i;
+    for (i = 0; i < threads; i++)
+        raised += (uint32_t)seats[i].raised;
+    ANSWERS(t, rht_close_all(t->handles, threads, pairs, NODES, &closed), RHT_ENDED);
+    CHECK(t, closed.len == NODES && closed.keys == NODES);
+    for (i = 0; i < NODES; i++) {
+        const uint32_t number = pairs[i].port.number;
+        const bool is_beside = pairs[i].port.net == 20 && number < NODES - left && pairs[i].owner == number;
+        CHECK(t, is_beside || has_left(&pairs[i], seats, threads, raised));
+        CHECK(t, i == 0 || is_behind(pairs[i].port, pairs[i - 1].port));
+    }
+    for (i = 0; i < threads; i++)
+        CHECK(t, !t->handles[i].in_use);
 }
 
 int main(int words, char **word)
@@ -302,7 +330,7 @@ int main(int words, char **word)
     run(&t, seats, (unsigned)threads, (unsigned)rounds);
     has_all_ports(&t, seats, (unsigned)threads);
     has_all_nodes(&t, (unsigned)threads);
-    close_table(&t);
+    ends_with_all(&t, seats, (unsigned)threads);
     printf("threads: %lu resizes and %lu walks beside %d threads\n", seats[threads - 1].moved,
            seats[threads - 1].walked, threads - 1);
     return ended("threads", t.made, t.failed);

@@ -2,8 +2,20 @@
  * program owes, as rht.h lists it, isn't tried here: nothing checks it. */
 #include "check.h"
 
-#define CALLS 11
+#define CALLS 12
 #define BEGINS 6
+
+/* Closes handles together, which is to be refused: nothing is written then. */
+static uint32_t close_all(struct test *t, rht_handle *handles, size_t count)
+{
+    rht_pair pairs[2] = {{.port = {.number = 61, .net = 62}, .owner = 63}, {.port = {.number = 64}, .owner = 65}};
+    rht_closed closed = {66, 67, 68};
+    const uint32_t code = rht_close_all(handles, count, pairs, 2, &closed);
+    CHECK(t, pairs[0].port.number == 61 && pairs[0].port.net == 62 && pairs[0].owner == 63);
+    CHECK(t, pairs[1].port.number == 64 && pairs[1].port.net == 0 && pairs[1].owner == 65);
+    CHECK(t, closed.len == 66 && closed.keys == 67 && closed.size == 68);
+    return code;
+}
 
 /* makes the call of this number, of those that take a handle; first those that begin one */
 static uint32_t make(struct test *t, rht_handle *h, unsigned which)
@@ -20,6 +32,7 @@ static uint32_t make(struct test *t, rht_handle *h, unsigned which)
     case 7: return rht_walk(h, start, 10, &t->reply);
     case 8: return rht_tidy(h, &t->reply);
     case 9: return rht_count(h, &t->reply);
+    case 10: return close_all(t, h, 1);
     default: return rht_close(h);
     }
 }
@@ -117,6 +130,101 @@ static void closes_twice(struct test *t)
     ANSWERS(t, rht_close(&t->handles[0]), RHT_NOT_OPEN);
     ANSWERS(t, rht_close(&t->handles[1]), RHT_NOT_OPEN);
     ANSWERS(t, rht_find(&t->handles[0], port(80), &t->owner), RHT_NOT_OPEN);
+}
+
+/* are_same: whether handles are as they were, of whom so many are open */
+static bool are_same(const rht_handle *handles, const rht_handle *before, size_t count, size_t open)
+{
+    size_t i;
+    for (i = 0; i < count; i++) {
+        if (!is_same(&handles[i], &before[i]))
+            return false;
+        open -= handles[i].in_use;
+    }
+    return open == 0;
+}
+
+/* None is closed where there is none, or where all are blank. */
+static void closes_none(struct test *t)
+{
+    rht_handle before[4];
+    memcpy(before, t->handles, sizeof before);
+    REFUSED(t, close_all(t, t->handles, 0), RHT_NOT_OPEN);
+    REFUSED(t, close_all(t, t->handles, 1), RHT_NOT_OPEN);
+    REFUSED(t, close_all(t, t->handles, 4), RHT_NOT_OPEN);
+    CHECK(t, are_same(t->handles, before, 4, 0));
+    open_table(t, 2);
+    ANSWERS(t, rht_bind(t->handles, port(80), 7, &t->reply), RHT_BOUND);
+    memcpy(before, t->handles, sizeof before);
+    REFUSED(t, close_all(t, t->handles, 0), RHT_NOT_OPEN);
+    CHECK(t, are_same(t->handles, before, 4, 2));
+    ANSWERS(t, rht_find(&t->handles[1], port(80), &t->owner), RHT_FOUND);
+    close_table(t);
+}
+
+/* One of them is blank, at any place, and the others stay open with what came with their last call. */
+static void closes_beside_a_blank(struct test *t)
+{
+    rht_handle before[4];
+    unsigned blank, i;
+    for (blank = 0; blank < 4; blank++) {
+        open_table(t, 4);
+        ANSWERS(t, rht_bind(t->handles, port(80), 7, &t->reply), RHT_BOUND);
+        for (i = 0; i < 4; i++)
+            ANSWERS(t, rht_all(&t->handles[i], port(80), &t->reply), RHT_LISTED);
+        ANSWERS(t, rht_close(&t->handles[blank]), RHT_CLOSED);
+        memcpy(before, t->handles, sizeof before);
+        REFUSED(t, close_all(t, t->handles, 4), RHT_NOT_OPEN);
+        CHECK(t, are_same(t->handles, before, 4, 3));
+        for (i = 0; i < 4; i++) {
+            CHECK(t, rht_owners(&t->handles[i], 0, &t->owner, 1) == (i == blank ? 0 : 1));
+            ANSWERS(t, rht_find(&t->handles[i], port(80), &t->owner), i == blank ? RHT_NOT_OPEN : RHT_FOUND);
+        }
+        close_table(t);
+    }
+}
+
+/* One of them is in a call, of any kind and at any place. That goes on, and then they close. Where one is blank too
+ * that is the reason which is answered. */
+static void closes_in_a_call(struct test *t)
+{
+    rht_handle before[4];
+    rht_pair pairs[2] = {{.owner = 0}, {.owner = 0}};
+    rht_closed closed = {0};
+    unsigned begun, in, i;
+    for (begun = 0; begun < BEGINS; begun++)
+        for (in = 0; in < 3; in++) {
+            open_table(t, 3);
+            ANSWERS(t, rht_bind(&t->handles[2], port(80), 7, &t->reply), RHT_BOUND);
+            REFUSED(t, make(t, &t->handles[in], begun), RHT_NOT_YET);
+            memcpy(before, t->handles, sizeof before);
+            REFUSED(t, close_all(t, t->handles, 3), RHT_IN_CALL);
+            REFUSED(t, close_all(t, t->handles, 4), RHT_NOT_OPEN);
+            REFUSED(t, close_all(t, &t->handles[in], 1), RHT_IN_CALL);
+            CHECK(t, are_same(t->handles, before, 4, 3));
+            for (i = 0; i < 3; i++)
+                if (i != in)
+                    ANSWERS(t, rht_find(&t->handles[i], port(81), &t->owner), RHT_MISSING);
+            ANSWERS(t, rht_finish(&t->handles[in], RHT_NOT_YET, &t->reply), ends[begun]);
+            ANSWERS(t, rht_close_all(t->handles, 3, pairs, 2, &closed), RHT_ENDED);
+            CHECK(t, closed.keys == (begun < 2 ? 2 : begun == 2 ? 0 : 1) && closed.len == closed.keys);
+            CHECK(t, begun == 2 || (pairs[0].port.number == 80 && pairs[0].owner == (begun == 3 ? 9 : 7)));
+            CHECK(t, begun > 1 || (pairs[1].port.number == 81 && pairs[1].owner == 8));
+        }
+}
+
+/* Behind either answer the handles are blank, so that a second closing is refused. */
+static void closes_all_twice(struct test *t)
+{
+    rht_pair pair;
+    rht_closed closed;
+    open_table(t, 3);
+    ANSWERS(t, rht_close_all(t->handles, 2, &pair, 0, &closed), RHT_CLOSED);
+    REFUSED(t, close_all(t, t->handles, 2), RHT_NOT_OPEN);
+    REFUSED(t, close_all(t, t->handles, 3), RHT_NOT_OPEN);
+    ANSWERS(t, rht_close_all(&t->handles[2], 1, &pair, 0, &closed), RHT_ENDED);
+    REFUSED(t, close_all(t, t->handles, 3), RHT_NOT_OPEN);
+    ANSWERS(t, rht_close(&t->handles[2]), RHT_NOT_OPEN);
 }
 
 /* Of several handles any one is open, also one of another table. */
@@ -283,7 +391,9 @@ static void fits_pages(struct test *t)
 
 static const struct named tests[] = {
     {"is_not_open", is_not_open}, {"is_in_call", is_in_call}, {"is_in_no_call", is_in_no_call},
-    {"closes_twice", closes_twice}, {"is_still_open", is_still_open}, {"has_wrong_counts", has_wrong_counts},
+    {"closes_twice", closes_twice}, {"closes_none", closes_none}, {"closes_beside_a_blank", closes_beside_a_blank},
+    {"closes_in_a_call", closes_in_a_call}, {"closes_all_twice", closes_all_twice},
+    {"is_still_open", is_still_open}, {"has_wrong_counts", has_wrong_counts},
     {"has_several_causes", has_several_causes}, {"has_bad_configs", has_bad_configs},
     {"rounds_sizes", rounds_sizes}, {"fits_pages", fits_pages},
 };

@@ -23,8 +23,9 @@
  * RHT_NO_NODE and RHT_NO_TABLE, as long as it isn't gone on with. So a thread that has begun a call on one handle goes
  * on with it before it waits for another one.
  *
- * Calls on one handle are made in their order. For each handle a run of the table is proved to exist in which it has
- * made its calls and got its replies. That one run has the calls of all handles is said by no clause. */
+ * Calls on one handle are made in their order. Of handles that rht_close_all closes with their table one run is proved
+ * to exist: it has the calls of each of them, with their replies, and ends with what was bound. That its order is the
+ * order of time isn't proved. */
 #ifndef RHT_H
 #define RHT_H
 
@@ -64,7 +65,8 @@ enum rht_code {
     RHT_CLEAR = 19,       /* returned nodes are free again */
     RHT_COUNTED = 20,     /* at most count ports are bound, and at least as many less the handles in a call */
     RHT_OPENED = 32,      /* the handles are open */
-    RHT_CLOSED = 33,      /* the handle is closed, and blank again */
+    RHT_CLOSED = 33,      /* the handle is closed, and blank again; or the handles are */
+    RHT_ENDED = 34,       /* the handles are closed, and their table with them */
     RHT_NOT_OPEN = 64,    /* the handle is blank */
     RHT_IN_CALL = 65,     /* a call of this handle is in progress: rht_go_on goes on with it */
     RHT_NO_CALL = 66,     /* none is, so there is none to go on with */
@@ -129,8 +131,15 @@ typedef struct rht_reply {
     bool again;
 } rht_reply;
 
-/* A caller of a table, or nothing. Its fields are the library's. Each function writes to its handle. So handles of
- * different threads are best moved into cache lines of their own, once they are open. */
+/* What a table was when it was closed. */
+typedef struct rht_closed {
+    uint64_t len;    /* the pairs that were written */
+    uint32_t keys;   /* the ports that were bound */
+    uint32_t size;   /* the size of the current table, in buckets */
+} rht_closed;
+
+/* A caller of a table, or nothing. Its fields are the library's. A call on an open handle changes what lies behind
+ * it, and only what opens and closes writes to the handle itself. */
 typedef struct rht_handle {
     void *at;
     bool in_use;
@@ -148,13 +157,21 @@ void rht_config_init(rht_config *config);
 
 /* Opens a table with count handles, which have to be as many as config->callers, and blank: the one at place i
  * is the caller number i. Sizes in the config are rounded first, and config says them where the table was opened.
- * All memory that the calls below need is taken here. RHT_OPENED; or the first of RHT_BAD_CONFIG, RHT_BAD_COUNT,
- * RHT_STILL_OPEN and RHT_NO_MEMORY for which there is a reason. */
+ * All memory that the calls below need is taken here, but for that of rht_close_all. RHT_OPENED; or the first of
+ * RHT_BAD_CONFIG, RHT_BAD_COUNT, RHT_STILL_OPEN and RHT_NO_MEMORY for which there is a reason. */
 uint32_t rht_open(rht_config *config, rht_handle *handles, size_t count);
 
 /* Closes a handle, whose number is given to no other. The table goes with its last handle. The nodes that its calls
  * took out and that it hasn't tidied stay taken until then. RHT_CLOSED, RHT_NOT_OPEN, RHT_IN_CALL. */
 uint32_t rht_close(rht_handle *handle);
+
+/* Closes count handles, which are of one table, all of them or none. Where no other handle of the table is open,
+ * RHT_ENDED: the table is closed too, closed says what it was, and its bindings are written: in rising order of ports,
+ * by nets first, a pair for each owner of a port, the first owner first. As many are written as there is room for, and
+ * the others are lost; room for as many pairs as the table has nodes is enough for all. Otherwise RHT_CLOSED, and
+ * nothing is written. Refused, where the handles stay open, as RHT_NOT_OPEN, also where count is 0, RHT_IN_CALL and
+ * RHT_NO_MEMORY. That the handles are of one table the program owes; it isn't looked at. */
+uint32_t rht_close_all(rht_handle *handles, size_t count, rht_pair *into, size_t room, rht_closed *closed);
 
 /* ---- calls that wait for nobody; each is refused as RHT_NOT_OPEN or RHT_IN_CALL */
 

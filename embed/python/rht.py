@@ -22,14 +22,15 @@ What a program does beside its calls:
   Moved(again=True).
 - A bind that answers Busy or NoTable is made again behind a work().
 - A release and a rebind take a node out. It is free again behind a tidy() of the same seat.
+- To have what is bound at the end, close all seats by Table.end().
 - A call that an exception broke off may hold a lock, be the one at work, and keep nodes from coming back. Make a
   further call of that seat, which finishes it, or close the seat.
 
 What is proved, and what isn't: the calls of the library are proved, and docs/EMBEDDING.md tells what of them. This
 module isn't, and neither is that it fits the library. Tests compare it with the header rht.h. Calls of one seat are
-made in their order. For each seat a run of the table is proved to exist in which it has made its calls and got its
-replies. That one run has the calls of all seats is said by no clause. That a call which waits comes to an end is not
-claimed, and neither is any speed.
+made in their order. Of the seats that Table.end() closes one run is proved to exist: it has the calls of each of them,
+with their replies, and ends with what was bound. That its order is the order of time isn't proved. That a call which
+waits comes to an end is not claimed, and neither is any speed.
 
 What the library asks of a program is kept here at run time:
 
@@ -38,6 +39,7 @@ What the library asks of a program is kept here at run time:
 - A seat is never copied or pickled; that raises TypeError.
 - Behind a fork the seats are dead in the child: calls raise Forked, and closing does nothing.
 - Numbers that are out of range raise ValueError before the library sees them.
+- The seats that a table closes together are its own: `seats` can't be given another value.
 
 Python 3.8 or newer is needed, with 64-bit pointers. The shared library librht.so lies in ../out/lib, where embed/build
 puts it, or in the folder that the variable RHT_LIB names.
@@ -50,12 +52,12 @@ import os
 import threading
 import time
 from dataclasses import dataclass
-from typing import List, NamedTuple, Optional
+from typing import List, NamedTuple, Optional, Tuple
 
 __all__ = [
-    "Absent", "Again", "BadConfig", "Bound", "Busy", "Clear", "Config", "Cursor", "Elsewhere", "Exists", "Forked",
-    "Idle", "Misfit", "Moved", "NoMemory", "NoNode", "NoTable", "NotWhole", "Pair", "Pending", "Port", "Rebound",
-    "Released", "Reply", "RhtError", "Seat", "SeatClosed", "SeatInUse", "Table", "TooBig", "Walked",
+    "Absent", "Again", "BadConfig", "Bound", "Busy", "Clear", "Config", "Cursor", "Elsewhere", "Ended", "Exists",
+    "Forked", "Idle", "Misfit", "Moved", "NoMemory", "NoNode", "NoTable", "NotWhole", "Pair", "Pending", "Port",
+    "Rebound", "Released", "Reply", "RhtError", "Seat", "SeatClosed", "SeatInUse", "Table", "TooBig", "Walked",
 ]
 
 # ---- what is said
@@ -222,6 +224,18 @@ class Pending(Reply):
     section: int
 
 
+@dataclass(frozen=True)
+class Ended:
+    """What a table was when it was closed.
+
+    bindings has each port that was bound, with all its owners, the first owner first. The ports rise, by their nets
+    first and then by their numbers. (Python sorts a Port by its number first.) size is that of the current table, in
+    buckets."""
+
+    bindings: List[Tuple[Port, List[int]]]
+    size: int
+
+
 # ---- what is raised
 
 
@@ -235,7 +249,7 @@ class BadConfig(RhtError):
 
 
 class NoMemory(RhtError):
-    """No table was opened, since memory has run out."""
+    """Memory has run out. No table was opened, or no seat was closed."""
 
 
 class SeatClosed(RhtError):
@@ -289,6 +303,7 @@ _CLEAR = 19
 _COUNTED = 20
 _OPENED = 32
 _CLOSED = 33
+_ENDED = 34
 _NOT_OPEN = 64
 _IN_CALL = 65
 _BAD_CONFIG = 80
@@ -326,12 +341,19 @@ class _Reply(ctypes.Structure):
     ]
 
 
+class _Closed(ctypes.Structure):
+    _fields_ = [("len", _U64), ("keys", _U32), ("size", _U32)]
+
+
 class _Handle(ctypes.Structure):
     _fields_ = [("at", ctypes.c_void_p), ("in_use", _BOOL)]
 
 
 # The sizes that the header gives, and the offset of each struct's last field.
-_SIZES = [(_Port, 8, 4), (_Pair, 12, 8), (_Cursor, 16, 12), (_Config, 36, 34), (_Reply, 64, 61), (_Handle, 16, 8)]
+_SIZES = [
+    (_Port, 8, 4), (_Pair, 12, 8), (_Cursor, 16, 12), (_Config, 36, 34), (_Reply, 64, 61), (_Closed, 16, 12),
+    (_Handle, 16, 8),
+]
 
 _AT = ctypes.POINTER(_Handle)
 _SAYS = ctypes.POINTER(_Reply)
@@ -339,6 +361,9 @@ _FUNCTIONS = {
     "rht_config_init": (None, [ctypes.POINTER(_Config)]),
     "rht_open": (_U32, [ctypes.POINTER(_Config), _AT, ctypes.c_size_t]),
     "rht_close": (_U32, [_AT]),
+    "rht_close_all": (
+        _U32, [_AT, ctypes.c_size_t, ctypes.POINTER(_Pair), ctypes.c_size_t, ctypes.POINTER(_Closed)],
+    ),
     "rht_find": (_U32, [_AT, _Port, ctypes.POINTER(_U32)]),
     "rht_walk": (_U32, [_AT, _Cursor, _U32, _SAYS]),
     "rht_tidy": (_U32, [_AT, _SAYS]),
@@ -433,10 +458,7 @@ def _alone(method):
 
     @functools.wraps(method)
     def guarded(self, *args, **kwargs):
-        if os.getpid() != self._pid:
-            raise Forked("the process that opened seat %d was %d" % (self.caller, self._pid))
-        if not self._lock.acquire(False):
-            raise SeatInUse("seat %d is in a call" % self.caller)
+        self._hold()
         try:
             return method(self, *args, **kwargs)
         finally:
@@ -478,6 +500,13 @@ class Seat:
     def __del__(self, getpid=os.getpid, close=_lib.rht_close):
         if getpid() == self._pid:
             close(self._at)
+
+    def _hold(self):
+        """Takes the seat's lock, without waiting for it."""
+        if os.getpid() != self._pid:
+            raise Forked("the process that opened seat %d was %d" % (self.caller, self._pid))
+        if not self._lock.acquire(False):
+            raise SeatInUse("seat %d is in a call" % self.caller)
 
     def _made(self, function, *args):
         """The code of a call. One that an exception broke off before is finished first."""
@@ -641,8 +670,8 @@ class Seat:
         """Closes the seat, and finishes a call in progress before. A closed seat stays closed, and behind a fork
         nothing is done. SeatInUse is raised where the seat is in a call.
 
-        The last seat of a table gives back its memory. The nodes that a seat's calls took out and that it hasn't
-        tidied stay taken while other seats of the table are open."""
+        The last seat of a table gives back its memory, and what is bound then is lost; Table.end() gives it. The nodes
+        that a seat's calls took out and that it hasn't tidied stay taken while other seats of the table are open."""
         if os.getpid() == self._pid:
             self._close()
 
@@ -673,9 +702,45 @@ def _config(numbers, listed, low, shrink):
     return config
 
 
+def _finish_all(seats):
+    """Goes on by turns with the calls of these seats that an exception broke off, until none is in progress."""
+    while [seat for seat in seats if _lib.rht_go_on(seat._at, _OPERATIONS, ctypes.byref(_Reply())) == _NOT_YET]:
+        time.sleep(0)
+
+
+def _close_together(seats, into, closed):
+    """Brings the handles of these seats side by side, closes them, and answers the code.
+
+    An exception may come between any two lines. So no handle is ever in two places where it can be used, and those
+    that are open are moved back in any case."""
+    size = ctypes.sizeof(_Handle)
+    handles = (_Handle * len(seats))()
+    try:
+        for seat, handle in zip(seats, handles):
+            ctypes.memmove(ctypes.byref(handle), seat._at, size)
+            ctypes.memset(seat._at, 0, size)
+        return _lib.rht_close_all(handles, len(seats), into, len(into), ctypes.byref(closed))
+    finally:
+        for seat, handle in zip(seats, handles):
+            if handle.in_use:
+                ctypes.memmove(seat._at, ctypes.byref(handle), size)
+
+
+def _listed(pairs):
+    """Each port of these pairs with its owners, both in their order."""
+    bindings = []
+    for pair in pairs:
+        port = Port(pair.port.number, pair.port.net)
+        if not bindings or bindings[-1][0] != port:
+            bindings.append((port, []))
+        bindings[-1][1].append(pair.owner)
+    return bindings
+
+
 class Table:
     """A table that was just opened, with `seats`, a tuple of as many seats as it has callers, and `config`. The seats
-    share the table, which lasts as long as one of them is open. With `with` all of them are closed at the end.
+    share the table, which lasts as long as one of them is open. With `with` all of them are closed at the end. `end`
+    closes them together, and gives what was bound.
 
     What a table is opened with:
 
@@ -697,7 +762,7 @@ class Table:
 
     BadConfig is raised where a number isn't in its range, where min is above max, or where the first table doesn't
     fit the pages. NoMemory is raised where memory has run out. All memory that the library's calls need is taken
-    here.
+    here, but for that of `end`.
     """
 
     def __init__(
@@ -717,8 +782,50 @@ class Table:
             raise NoMemory("memory has run out")
         if code != _OPENED:
             raise Misfit(code)
-        self.seats = tuple(Seat(caller, handle) for caller, handle in enumerate(handles))
+        self._seats = tuple(Seat(caller, handle) for caller, handle in enumerate(handles))
         self.config = Config(**{name: getattr(config, name) for name, _ in _Config._fields_})
+
+    @property
+    def seats(self) -> Tuple[Seat, ...]:
+        """The seats of the table, in order of their numbers, also those that were closed."""
+        return self._seats
+
+    def end(self) -> Ended:
+        """Closes all seats that are open together, and with them the table: Ended, with what was bound.
+
+            with rht.Table(callers=2) as table:
+                table.seats[0].bind(80, owner=7)
+                table.end()     # Ended(bindings=[(Port(number=80, net=0), [7])], size=64)
+
+        What seats bound that were closed before by themselves is told too. Calls that an exception broke off are
+        finished before, by turns. It is proved of the library's call that one run has the calls of all seats that
+        are closed by it, with their replies, and that this was bound at its end.
+
+        SeatInUse is raised where a seat is in a call, SeatClosed where all seats were closed, Forked in a forked
+        child, and NoMemory or MemoryError where memory has run out. Then no seat was closed. Where another exception
+        breaks it off, as KeyboardInterrupt may, seats may be closed, and what was bound may be lost."""
+        held = []
+        try:
+            for seat in self._seats:
+                seat._hold()
+                held.append(seat)
+            return self._end([seat for seat in self._seats if seat._handle.in_use])
+        finally:
+            for seat in held:
+                seat._lock.release()
+
+    def _end(self, seats):
+        """The same with these seats, which are all that are open, and are held."""
+        if not seats:
+            raise SeatClosed("all seats of the table were closed")
+        into, closed = (_Pair * self.config.nodes)(), _Closed()
+        _finish_all(seats)
+        code = _close_together(seats, into, closed)
+        if code == _NO_MEMORY:
+            raise NoMemory("memory has run out")
+        if code != _ENDED:
+            raise Misfit(code)
+        return Ended(_listed(into[: closed.len]), closed.size)
 
     def close(self):
         """Closes all seats. Where one is in a call, the others are closed, and SeatInUse is raised."""

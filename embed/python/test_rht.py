@@ -21,8 +21,8 @@ sys.path.insert(0, HERE)
 
 import rht  # noqa: E402
 from rht import (  # noqa: E402
-    Absent, Again, Bound, Busy, Clear, Cursor, Elsewhere, Exists, Idle, Moved, NoNode, NoTable, Pair, Pending, Port,
-    Rebound, Released, TooBig, Walked,
+    Absent, Again, Bound, Busy, Clear, Cursor, Elsewhere, Ended, Exists, Idle, Moved, NoNode, NoTable, Pair,
+    Pending, Port, Rebound, Released, TooBig, Walked,
 )
 
 
@@ -198,6 +198,160 @@ class Walks(unittest.TestCase):
             self.assertEqual(len(seat.pairs(1)), 6)
 
 
+class Ends(unittest.TestCase):
+    """What is bound where all seats of a table are closed together."""
+
+    def assert_closed(self, table):
+        for seat in table.seats:
+            self.assertFalse(seat._handle.in_use)
+            self.assertRaises(rht.SeatClosed, seat.count)
+
+    def assert_open(self, *seats):
+        """These seats are open, in no call, and see that port 80 is 100's."""
+        for seat in seats:
+            self.assertEqual(seat.find(80), 100)
+
+    def test_bindings_come_in_rising_order_of_ports(self):
+        with rht.Table(callers=3) as table:
+            one, two, three = table.seats
+            one.bind(Port(7, 3), 0)
+            two.bind(4294967295, 1)
+            three.bind(Port(0, 65535), 2)
+            one.bind(Port(6, 3), 3)
+            two.bind(9, 4)
+            three.bind(Port(8, 1), 5)
+            self.assertTrue(one.release(Port(8, 1), 5))
+            self.assertTrue(two.rebind(9, 4, 40))
+            bindings = [
+                (Port(9), [40]), (Port(4294967295), [1]), (Port(6, 3), [3]), (Port(7, 3), [0]), (Port(0, 65535), [2]),
+            ]
+            self.assertEqual(table.end(), Ended(bindings, 64))
+            self.assert_closed(table)
+
+    def test_a_port_has_its_owners_in_order(self):
+        with small(callers=2, listed=True) as table:
+            one, two = table.seats
+            for seat, owner in ((one, 5), (two, 6), (one, 5), (two, 4)):
+                seat.bind(80, owner)
+            one.bind(1, 9)
+            self.assertEqual(table.end(), Ended([(Port(1), [9]), (Port(80), [4, 5, 6, 5])], 4))
+
+    def test_a_table_may_be_empty(self):
+        for callers in (1, 16):
+            self.assertEqual(rht.Table(callers=callers).end(), Ended([], 64))
+
+    def test_each_node_has_its_place(self):
+        for listed, ports in ((False, 100), (True, 3)):
+            with rht.Table(callers=2, nodes=100, hint=96, listed=listed) as table:
+                for number in range(100):
+                    self.assertTrue(table.seats[number % 2].bind(number % ports, number))
+                self.assertEqual(table.seats[0].bind(101, 1), NoNode())
+                bindings = [(Port(port), list(range(port, 100, ports))[::-1]) for port in range(ports)]
+                self.assertEqual(table.end(), Ended(bindings, 128))
+
+    def test_a_table_behind_is_told_too(self):
+        for works in range(2):
+            with small() as table:
+                (seat,) = table.seats
+                for number in range(6):
+                    self.assertTrue(seat.bind(number, 1))
+                for _ in range(works):
+                    self.assertEqual(seat.work(), Moved(again=False))
+                self.assertEqual(table.end(), Ended([(Port(number), [1]) for number in range(6)], 4 << works))
+
+    def test_seats_that_were_closed_have_left_what_they_bound(self):
+        for closed in ([0], [1], [2], [0, 1], [0, 2], [1, 2]):
+            with rht.Table(callers=3) as table:
+                for seat in table.seats:
+                    seat.bind(seat.caller, 7)
+                for caller in closed:
+                    table.seats[caller].close()
+                self.assertEqual(table.end().bindings, [(Port(number), [7]) for number in range(3)])
+                self.assert_closed(table)
+
+    def test_it_ends_once(self):
+        with rht.Table(callers=2) as table:
+            table.end()
+            self.assertRaises(rht.SeatClosed, table.end)
+        table.close()
+        self.assertRaises(rht.SeatClosed, table.end)
+        with rht.Table() as table:
+            pass
+        self.assertRaises(rht.SeatClosed, table.end)
+
+    def test_a_seat_in_use_is_not_waited_for(self):
+        with rht.Table(callers=3) as table:
+            one, two, three = table.seats
+            one.bind(80, 100)
+            with two._lock:
+                self.assertRaises(rht.SeatInUse, table.end)
+                self.assert_open(one, three)
+            self.assert_open(one, two, three)
+            self.assertEqual(table.end().bindings, [(Port(80), [100])])
+
+    def test_calls_that_were_broken_off_are_finished_by_turns(self):
+        for operations in range(1, 30):
+            for first, second in ((0, 1), (1, 0)):
+                table = rht.Table(callers=2)
+                for caller in (first, second):
+                    seat = table.seats[caller]
+                    begin_bind(seat, 80, caller)
+                    rht._lib.rht_go_on(seat._at, operations, rht._Reply())
+                with mock.patch.object(rht, "_OPERATIONS", 1):
+                    ((port, owners),) = table.end().bindings
+                self.assertEqual(port, Port(80))
+                self.assertIn(owners, ([0], [1]))
+
+    def test_a_refusal_leaves_the_seats_open(self):
+        def broken_off(*_):
+            raise KeyboardInterrupt
+
+        with rht.Table(callers=3) as table:
+            one, two, three = table.seats
+            one.bind(80, 100)
+            two.close()
+            with mock.patch.object(rht._lib, "rht_close_all", return_value=rht._NO_MEMORY):
+                self.assertRaises(rht.NoMemory, table.end)
+            self.assert_open(one, three)
+            with mock.patch.object(rht._lib, "rht_close_all", return_value=99):
+                self.assertRaises(rht.Misfit, table.end)
+            self.assert_open(one, three)
+            with mock.patch.object(rht._lib, "rht_close_all", broken_off):
+                self.assertRaises(KeyboardInterrupt, table.end)
+            self.assert_open(one, three)
+            begin_bind(one, 81, 101)
+            with mock.patch.object(rht, "_OPERATIONS", 1), mock.patch("rht.time.sleep", side_effect=KeyboardInterrupt):
+                self.assertRaises(KeyboardInterrupt, table.end)
+            self.assert_open(one, three)
+            self.assertEqual(table.end().bindings, [(Port(80), [100]), (Port(81), [101])])
+
+    def test_an_exception_between_two_moves_leaves_the_seats_open(self):
+        with rht.Table(callers=3) as table:
+            table.seats[0].bind(80, 100)
+            for name in ("memmove", "memset"):
+                real, made = getattr(ctypes, name), []
+                for last in range(3):
+
+                    def breaking(*args):
+                        made.append(args)
+                        if len(made) == last + 1:
+                            raise KeyboardInterrupt
+                        return real(*args)
+
+                    made.clear()
+                    with mock.patch.object(ctypes, name, breaking):
+                        self.assertRaises(KeyboardInterrupt, table.end)
+                    self.assert_open(*table.seats)
+            self.assertEqual(table.end().bindings, [(Port(80), [100])])
+
+    def test_a_table_has_no_other_seats(self):
+        one, two = rht.Table(), rht.Table()
+        with self.assertRaises(AttributeError):
+            one.seats = two.seats
+        with self.assertRaises(TypeError):
+            one.seats[0] = two.seats[0]
+
+
 class WrongUses(unittest.TestCase):
     """What a program should not do raises, and leaves the table as it was."""
 
@@ -363,6 +517,7 @@ class Threads(unittest.TestCase):
             left = [Pair(Port(1), 7)] + [Pair(Port(1000 * caller, 5), 9) for caller in range(4)]
             self.assertEqual(sorted(table.seats[2].pairs()), sorted(left))
             self.assertEqual(table.seats[1].count(), 5)
+            self.assertEqual(table.end().bindings, [(port, [owner]) for port, owner in left])
 
     def test_each_rebind_succeeds_once(self):
         made = []
@@ -441,6 +596,7 @@ class Forks(unittest.TestCase):
                 self.assertRaises(rht.Forked, seat.find, 80)
                 self.assertRaises(rht.Forked, seat.pairs)
                 self.assertRaises(rht.Forked, other.work)
+                self.assertRaises(rht.Forked, table.end)
                 seat.close()
                 seat.__del__()
                 table.close()
@@ -449,6 +605,7 @@ class Forks(unittest.TestCase):
             self.assertTrue(self.in_child(run))
             self.assertEqual(seat.find(80), 100)
             self.assertEqual(other.find(81), 101)
+            self.assertEqual(table.end().bindings, [(Port(80), [100]), (Port(81), [101])])
 
     def test_a_seat_in_use_is_dead_too(self):
         with rht.Table() as table:
@@ -471,7 +628,7 @@ class Header(unittest.TestCase):
     INCLUDE = os.path.join(HERE, os.pardir, "include")
     STRUCTS = {
         "rht_port": rht._Port, "rht_pair": rht._Pair, "rht_cursor": rht._Cursor, "rht_config": rht._Config,
-        "rht_reply": rht._Reply, "rht_handle": rht._Handle,
+        "rht_reply": rht._Reply, "rht_closed": rht._Closed, "rht_handle": rht._Handle,
     }
 
     def text(self):
@@ -480,7 +637,7 @@ class Header(unittest.TestCase):
 
     def test_codes(self):
         codes = dict(re.findall(r"^ *RHT_(\w+) = (\d+)", self.text(), re.M))
-        self.assertEqual(len(codes), 31)
+        self.assertEqual(len(codes), 32)
         for name, code in codes.items():
             here = getattr(rht, "_" + name, None)
             if name in ("NO_CALL", "NO_STEPS", "BAD_COUNT", "STILL_OPEN"):
@@ -506,7 +663,7 @@ class Header(unittest.TestCase):
             name: (self.in_c(result), [self.in_c(kind) for kind in arguments])
             for name, (result, arguments) in rht._FUNCTIONS.items()
         }
-        self.assertEqual(len(there), 16)
+        self.assertEqual(len(there), 17)
         self.assertEqual(there, here)
 
     @unittest.skipUnless(shutil.which("cc"), "no C compiler here")

@@ -6,8 +6,8 @@
 //!
 //! Most functions are declared `safe`, since their types keep what the header asks of a program:
 //!
-//! - A `Handle` is blank at first, and only `rht_open` and `rht_close` change it. It has no `Clone` and no public
-//!   field. So it is never copied, and a move leaves no second one.
+//! - A `Handle` is blank at first, and only `rht_open`, `rht_close` and `rht_close_all` change it. It has no `Clone` and
+//!   no public field. So it is never copied, and a move leaves no second one.
 //! - A `&mut Handle` is the one way to it while a call lasts. So the handle is in one call at a time.
 //! - A `&mut` points to one value, is initialised, aligned and not null, and overlaps with no other argument. No other
 //!   thread touches it meanwhile, and a `bool` is 0 or 1.
@@ -52,6 +52,8 @@ pub mod code {
         COUNTED = 20;
         OPENED = 32;
         CLOSED = 33;
+        ENDED = 34;
+        NOT_OPEN = 64;
         IN_CALL = 65;
         BAD_CONFIG = 80;
         NO_MEMORY = 83;
@@ -188,6 +190,24 @@ impl Reply {
     };
 }
 
+/// What a table was when it was closed.
+#[repr(C)]
+#[derive(Clone, Copy)]
+pub struct Closed {
+    pub len: u64,
+    pub keys: u32,
+    pub size: u32,
+}
+
+const _: () = assert!(size_of::<Closed>() == 16);
+const _: () = assert!(offset_of!(Closed, len) == 0 && offset_of!(Closed, keys) == 8);
+const _: () = assert!(offset_of!(Closed, size) == 12);
+
+impl Closed {
+    /// All its bytes are 0.
+    pub const EMPTY: Closed = Closed { len: 0, keys: 0, size: 0 };
+}
+
 /// A caller of a table, or nothing. Its fields are the archive's.
 #[repr(C)]
 pub struct Handle {
@@ -214,6 +234,15 @@ unsafe extern "C" {
     /// `handles` points to `count` handles, which nobody else uses meanwhile.
     pub unsafe fn rht_open(config: &mut Config, handles: *mut Handle, count: usize) -> u32;
     pub safe fn rht_close(handle: &mut Handle) -> u32;
+    /// `handles` points to `count` handles of one table, and `into` to `room` pairs, which nobody else uses meanwhile.
+    /// Neither is null where there are none either.
+    pub unsafe fn rht_close_all(
+        handles: *mut Handle,
+        count: usize,
+        into: *mut Pair,
+        room: usize,
+        closed: &mut Closed,
+    ) -> u32;
 
     pub safe fn rht_find(handle: &mut Handle, port: Port, owner: &mut u32) -> u32;
     pub safe fn rht_walk(handle: &mut Handle, from: Cursor, limit: u32, reply: &mut Reply) -> u32;
@@ -245,6 +274,16 @@ pub fn open(config: &mut Config, handles: &mut [Handle]) -> u32 {
     // SAFETY: the pointer and the number are those of one slice, which is borrowed for the call. A slice's pointer is
     // aligned and not null, also that of an empty one.
     unsafe { rht_open(config, handles.as_mut_ptr(), handles.len()) }
+}
+
+/// Closes these handles together, and writes what was bound where their table is closed with them.
+///
+/// # Safety
+///
+/// The handles are of one table.
+pub unsafe fn close_all(handles: &mut [Handle], into: &mut [Pair], closed: &mut Closed) -> u32 {
+    // SAFETY: the handles are as this function's caller owes. The pointers and numbers are as in `open`.
+    unsafe { rht_close_all(handles.as_mut_ptr(), handles.len(), into.as_mut_ptr(), into.len(), closed) }
 }
 
 /// Writes the owners that came with the last call, from the place `skip` on, and says how many.
@@ -328,6 +367,6 @@ mod tests {
         for (name, kinds) in &prototypes {
             assert_eq!(&declared(name), kinds, "{name}");
         }
-        assert_eq!(prototypes.len(), 16);
+        assert_eq!(prototypes.len(), 17);
     }
 }

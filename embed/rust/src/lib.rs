@@ -23,6 +23,8 @@
 //! - A bind that answers [`Bind::Busy`] or [`Bind::NoTable`] is made again behind a [`Seat::work`].
 //! - A release and a rebind take a node out. It is free again behind a [`Seat::tidy`] of the same seat.
 //! - A bind or rebind that answers `NoNode` may find a node behind a tidying, of any seat that took nodes out.
+//! - To have what is bound at the end, close all seats together: [`Table::close`], or [`Seat::close_all`] where they
+//!   come back from threads.
 //! - A seat with a call in progress may hold a lock, be the one at work, and keep nodes from coming back. Others wait
 //!   for it, or are answered [`Work::Elsewhere`] or [`Tidy::Pending`]. So go on with it before you wait for another
 //!   seat.
@@ -37,8 +39,9 @@
 //! header. What the header asks of a program is kept here by Rust's types. A seat isn't copied, is in one thread at
 //! a time, and in one call; safe code can't do otherwise.
 //!
-//! Calls of one seat are made in their order. For each seat a run of the table is proved to exist in which it has made
-//! its calls and got its replies. That one run has the calls of all seats is said by no clause.
+//! Calls of one seat are made in their order. Of seats that are closed together with their table, by [`Table::close`]
+//! or [`Seat::close_all`], one run is proved to exist: it has the calls of each of them, with their replies, and ends
+//! with what was bound. That its order is the order of time isn't proved.
 //!
 //! Not claimed at all is that a call which waits comes to an end, and how fast any call is.
 //!
@@ -57,6 +60,7 @@
 //! The archive `librht.a` has to be there: `embed/build` makes it in `embed/out/lib`. The variable `RHT_LIB` may name
 //! another folder. Then `cargo build --offline` needs nothing else.
 
+mod closing;
 mod config;
 mod ffi;
 mod progress;
@@ -64,6 +68,7 @@ mod replies;
 mod seat;
 mod table;
 
+pub use closing::{Closed, NotClosed, WhyNotClosed};
 pub use config::{Config, Hash, Kind};
 pub use ffi::{Pair, Port};
 pub use progress::{Progress, Step};

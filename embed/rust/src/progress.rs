@@ -7,7 +7,7 @@ use core::marker::PhantomData;
 use std::thread::yield_now;
 
 /// How many operations are made between two times that a waiting call yields.
-const OPERATIONS: u32 = 64;
+pub(crate) const OPERATIONS: u32 = 64;
 
 /// What a call has come to that is made in pieces.
 ///

@@ -267,7 +267,7 @@ mod tests {
     #[test]
     fn other_codes_are_no_replies() {
         let reply = ffi::Reply::EMPTY;
-        for other in [0, 21, 31, code::OPENED, 64, code::IN_CALL, 99, u32::MAX] {
+        for other in [0, 21, 31, code::OPENED, code::ENDED, code::NOT_OPEN, code::IN_CALL, 99, u32::MAX] {
             assert_eq!(Bind::told(other, &reply), None);
             assert_eq!(BindOnce::told(other, &reply), None);
             assert_eq!(Release::told(other, &reply), None);

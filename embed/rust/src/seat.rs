@@ -9,14 +9,18 @@ use crate::{Pair, Port};
 use core::cell::Cell;
 use core::fmt;
 use core::marker::PhantomData;
+use core::mem::swap;
+use std::sync::Arc;
 use std::thread::yield_now;
 
 /// The limit of a piece, where a whole walk is made.
 const PIECE: u32 = 256;
 
-/// A handle with a cache line of its own. Each call writes to its handle, so two in one line would slow each other.
-#[repr(align(128))]
-struct Place(ffi::Handle);
+/// What the seats of one table share beside the table: so two seats are of one table where they share it.
+pub(crate) struct Origin {
+    /// The table's nodes.
+    pub(crate) nodes: u32,
+}
 
 /// A caller of a table. A thread that has a seat makes calls by it, one after another.
 ///
@@ -44,14 +48,14 @@ struct Place(ffi::Handle);
 /// ```
 ///
 /// A seat that is dropped closes, and finishes a call in progress before; for that it may wait. The last seat of a
-/// table gives back its memory. The nodes that a seat's calls took out and that it hasn't tidied stay taken while
+/// table gives back its memory. What is bound then is lost; [`close_all`](Seat::close_all) gives it. The nodes that a seat's calls took out and that it hasn't tidied stay taken while
 /// other seats of the table are open.
 ///
 /// A call that panics since the archive doesn't fit leaves the seat as the archive left it.
 pub struct Seat {
-    // A box, so that to move a seat is to move a pointer, and not a whole cache line.
-    place: Box<Place>,
+    handle: ffi::Handle,
     caller: u32,
+    origin: Arc<Origin>,
     not_sync: PhantomData<Cell<()>>,
 }
 
@@ -62,19 +66,35 @@ pub(crate) fn told<R: Told>(code: u32, reply: &ffi::Reply) -> R {
 
 /// What every call here is made by.
 impl Seat {
-    /// The seat with this number, of a handle that was just opened.
-    pub(crate) fn of(caller: u32, handle: ffi::Handle) -> Seat {
-        Seat { place: Box::new(Place(handle)), caller, not_sync: PhantomData }
+    /// The seat with this number, of a handle that was just opened. Of the seats that share an origin all handles are
+    /// of one table, since `Table::open` gives each table one of its own.
+    pub(crate) fn of(caller: u32, handle: ffi::Handle, origin: Arc<Origin>) -> Seat {
+        Seat { handle, caller, origin, not_sync: PhantomData }
+    }
+
+    /// Whether both seats are of one table.
+    pub(crate) fn is_beside(&self, other: &Seat) -> bool {
+        Arc::ptr_eq(&self.origin, &other.origin)
+    }
+
+    /// How many nodes the table has.
+    pub(crate) fn nodes(&self) -> usize {
+        self.origin.nodes as usize
+    }
+
+    /// Gives the seat this handle, and takes its own one. A seat whose handle is blank is only dropped.
+    pub(crate) fn swap_handle(&mut self, handle: &mut ffi::Handle) {
+        swap(&mut self.handle, handle);
     }
 
     /// Makes a call. Where one is in progress that was forgotten, that one is finished before.
     fn call(&mut self, mut make: impl FnMut(&mut ffi::Handle) -> u32) -> u32 {
-        let code = make(&mut self.place.0);
+        let code = make(&mut self.handle);
         if code != code::IN_CALL {
             return code;
         }
         self.finish_left();
-        make(&mut self.place.0)
+        make(&mut self.handle)
     }
 
     /// Makes a call that ends at once.
@@ -100,7 +120,7 @@ impl Seat {
     /// Goes on with the call in progress. None says that it still is.
     pub(crate) fn go_on(&mut self, operations: u32) -> Option<(u32, ffi::Reply)> {
         let mut reply = ffi::Reply::EMPTY;
-        let code = ffi::rht_go_on(&mut self.place.0, operations, &mut reply);
+        let code = ffi::rht_go_on(&mut self.handle, operations, &mut reply);
         (code != code::NOT_YET).then_some((code, reply))
     }
 }
@@ -147,7 +167,7 @@ impl Seat {
     /// Writes the pairs that came with a walk, from the place `skip` on, as far as there is room, and says how many
     /// were written. They are in the order in which they were seen. Only the seat's last call has pairs.
     pub fn pairs(&mut self, skip: usize, into: &mut [Pair]) -> usize {
-        ffi::pairs(&mut self.place.0, skip, into)
+        ffi::pairs(&mut self.handle, skip, into)
     }
 
     /// Walks as `walk` does, and puts the pairs behind what is in `into`.
@@ -182,7 +202,7 @@ impl Seat {
     /// Writes the owners that came with a listing, from the place `skip` on, as far as there is room, and says how
     /// many were written. The port's first owner is the first. Only the seat's last call has owners.
     pub fn owners(&mut self, skip: usize, into: &mut [u32]) -> usize {
-        ffi::owners(&mut self.place.0, skip, into)
+        ffi::owners(&mut self.handle, skip, into)
     }
 }
 
@@ -314,7 +334,8 @@ impl Seat {
 impl Drop for Seat {
     fn drop(&mut self) {
         let code = self.call(|handle| ffi::rht_close(handle));
-        if code != code::CLOSED && !std::thread::panicking() {
+        // It isn't open where it was closed together with others.
+        if !matches!(code, code::CLOSED | code::NOT_OPEN) && !std::thread::panicking() {
             misfit(code);
         }
     }

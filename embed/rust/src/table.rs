@@ -3,15 +3,16 @@
 use crate::config::Config;
 use crate::ffi::{self, Handle, code};
 use crate::replies::misfit;
-use crate::seat::Seat;
+use crate::seat::{Origin, Seat};
 use core::fmt;
 use core::mem::replace;
+use std::sync::Arc;
 
 /// The greatest number of seats.
-const MOST_SEATS: usize = 16;
+pub(crate) const MOST_SEATS: usize = 16;
 
 /// A table that was just opened: all of its seats, and its config. The table itself is what the seats share, so it
-/// lasts as long as one of them is open.
+/// lasts as long as one of them is open. [`close`](Table::close) gives what is bound at its end.
 #[derive(Debug)]
 pub struct Table {
     /// The config that it was opened with, its sizes rounded.
@@ -22,7 +23,7 @@ pub struct Table {
 }
 
 impl Table {
-    /// Opens a table. All memory that calls will need is taken here, by `malloc`.
+    /// Opens a table. All memory that calls will need is taken here, by `malloc`, but for that of closing seats together.
     ///
     /// ```
     /// use rht::{Config, NotOpened, Table};
@@ -50,9 +51,10 @@ impl Table {
             code::NO_MEMORY => return Err(NotOpened::NoMemory),
             code => misfit(code),
         }
+        let origin = Arc::new(Origin { nodes: config.nodes });
         let seats = (0..)
             .zip(handles)
-            .map(|(caller, handle)| Seat::of(caller, replace(handle, Handle::BLANK)))
+            .map(|(caller, handle)| Seat::of(caller, replace(handle, Handle::BLANK), origin.clone()))
             .collect();
         Ok(Table { config: Config::from_c(&config), seats })
     }
