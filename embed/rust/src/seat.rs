@@ -48,8 +48,8 @@ pub(crate) struct Origin {
 /// ```
 ///
 /// A seat that is dropped closes, and finishes a call in progress before; for that it may wait. The last seat of a
-/// table gives back its memory. What is bound then is lost; [`close_all`](Seat::close_all) gives it. The nodes that a seat's calls took out and that it hasn't tidied stay taken while
-/// other seats of the table are open.
+/// table gives back its memory. What is bound then is lost; [`close_all`](Seat::close_all) gives it. The nodes that a
+/// seat's calls took out and that it hasn't tidied stay taken while other seats of the table are open.
 ///
 /// A call that panics since the archive doesn't fit leaves the seat as the archive left it.
 pub struct Seat {
