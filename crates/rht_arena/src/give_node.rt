@@ -10,7 +10,7 @@ use rht_words::{Geometry, Next, Op, bit_of};
 use std::marker::Model;
 
 /// Gives a node back. Whoever gives it holds it, and no link leads to it.
-#[derive(Clone, Copy, Debug, PartialEq, Eq)]
+#[derive(Clone, Copy)]
 pub struct GiveNode {
     geometry: Geometry,
     node: u32,

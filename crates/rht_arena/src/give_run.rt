@@ -11,7 +11,7 @@ use rht_words::{Geometry, Next, Op};
 use std::marker::Model;
 
 /// Gives a run of pages back. Whoever gives it holds it, and nobody reads its words any more.
-#[derive(Clone, Copy, Debug, PartialEq, Eq)]
+#[derive(Clone, Copy)]
 pub struct GiveRun {
     geometry: Geometry,
     first: u32,

@@ -12,7 +12,7 @@ use std::marker::Model;
 
 /// Where a new node stands. Each state but the one that holds a piece has one operation, and
 /// nobody else sees the node yet.
-#[derive(Clone, Copy, Debug, PartialEq, Eq)]
+#[derive(Clone, Copy)]
 pub enum NewNodeAt {
     /// Takes a free node.
     Taking { take: TakeNode },
@@ -26,7 +26,7 @@ pub enum NewNodeAt {
 
 /// Takes a free node and stores its key, its owner and the end of its list in it. The answer is
 /// none where no node was to be had.
-#[derive(Clone, Copy, Debug, PartialEq, Eq)]
+#[derive(Clone, Copy)]
 pub struct NewNode {
     geometry: Geometry,
     key: u64,

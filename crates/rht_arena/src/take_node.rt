@@ -10,7 +10,7 @@ use rht_words::{Geometry, Next, Op, bit_of, bits_above, lowest_free};
 use std::marker::Model;
 
 /// Where the taking of a node stands. Each state has one operation.
-#[derive(Clone, Copy, Debug, PartialEq, Eq)]
+#[derive(Clone, Copy)]
 pub enum TakeNodeAt {
     /// Loads a word of the node map. Others take nodes and give them back meanwhile.
     MapWord { index: u32 },
@@ -19,7 +19,7 @@ pub enum TakeNodeAt {
 }
 
 /// Takes a free node. The answer is none where each node was seen taken.
-#[derive(Clone, Copy, Debug, PartialEq, Eq)]
+#[derive(Clone, Copy)]
 pub struct TakeNode {
     geometry: Geometry,
     at: TakeNodeAt,

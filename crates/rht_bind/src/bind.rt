@@ -71,7 +71,7 @@ pub struct FoundList {
 }
 
 /// Where a bind stands. Each state but those that hold a piece has one operation.
-#[derive(Clone, Copy, Debug, PartialEq, Eq)]
+#[derive(Clone, Copy)]
 pub enum BindAt {
     /// Takes a free node and stores the port and the owner in it.
     Filling {

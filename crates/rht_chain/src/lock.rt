@@ -7,7 +7,7 @@ use rht_words::{Next, Op, is_locked};
 use std::marker::Model;
 
 /// Where the taking of a lock stands. Each state has one operation.
-#[derive(Clone, Copy, Debug, PartialEq, Eq)]
+#[derive(Clone, Copy)]
 pub enum LockAt {
     /// Loads the bucket's word, until it is found unlocked.
     Word,
@@ -18,7 +18,7 @@ pub enum LockAt {
 
 /// Takes the lock of a bucket. The answer is the word before, which is even. The kernel's
 /// counterpart is `rht_lock`.
-#[derive(Clone, Copy, Debug, PartialEq, Eq)]
+#[derive(Clone, Copy)]
 pub struct Lock {
     place: usize,
     at: LockAt,

@@ -14,7 +14,7 @@ use rht_words::{Geometry, Next, Op, Start};
 use std::marker::Model;
 
 /// Where a probe stands. Each state holds a piece.
-#[derive(Clone, Copy, Debug, PartialEq, Eq)]
+#[derive(Clone, Copy)]
 pub enum ProbeAt {
     /// Takes the lock of the bucket.
     Locking { lock: Lock },
@@ -32,7 +32,7 @@ pub struct Probed {
 }
 
 /// Locks a bucket and walks its chain. An empty chain is seen with the taking of the lock.
-#[derive(Clone, Copy, Debug, PartialEq, Eq)]
+#[derive(Clone, Copy)]
 pub struct Probe {
     geometry: Geometry,
     key: u64,

@@ -8,7 +8,7 @@ use rht_words::{Geometry, Next, Op, plain_of};
 use std::marker::Model;
 
 /// Where a change of one link stands. Each state has one operation.
-#[derive(Clone, Copy, Debug, PartialEq, Eq)]
+#[derive(Clone, Copy)]
 pub enum RelinkAt {
     /// Stores the link into the node before. Look-ups see it from here on.
     ChainLink { before: u32 },
@@ -19,7 +19,7 @@ pub enum RelinkAt {
 
 /// Gives the place before a node another link, in a locked bucket, and unlocks it. The kernel's
 /// counterparts are `rcu_assign_pointer` with `rht_unlock`, and `rht_assign_unlock`.
-#[derive(Clone, Copy, Debug, PartialEq, Eq)]
+#[derive(Clone, Copy)]
 pub struct Relink {
     geometry: Geometry,
     place: usize,

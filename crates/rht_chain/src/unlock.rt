@@ -8,7 +8,7 @@ use rht_words::{Next, Op};
 
 /// Unlocks a bucket that this call has locked, by one operation. The kernel's counterpart is
 /// `rht_unlock`.
-#[derive(Clone, Copy, Debug, PartialEq, Eq)]
+#[derive(Clone, Copy)]
 pub struct Unlock {
     /// The place of the bucket's word.
     pub place: usize,

@@ -29,7 +29,7 @@ pub struct Head {
 }
 
 /// Where a look-up stands. Each state but the one that holds a piece has one operation.
-#[derive(Clone, Copy, Debug, PartialEq, Eq)]
+#[derive(Clone, Copy)]
 pub enum FindAt {
     /// Opens the read section, by one more in its caller's section word.
     Opening,

@@ -12,7 +12,7 @@ use rht_words::{Next, Op, places};
 
 /// Enters the read section of a caller that is in none, by one operation. The kernel's counterpart is
 /// `rcu_read_lock`.
-#[derive(Clone, Copy, Debug, PartialEq, Eq)]
+#[derive(Clone, Copy)]
 pub struct Enter {
     /// The caller whose section it is.
     pub caller: u32,
@@ -20,7 +20,7 @@ pub struct Enter {
 
 /// Leaves the read section that the caller is in, by one operation. The kernel's counterpart is
 /// `rcu_read_unlock`.
-#[derive(Clone, Copy, Debug, PartialEq, Eq)]
+#[derive(Clone, Copy)]
 pub struct Leave {
     /// The caller whose section it is.
     pub caller: u32,

@@ -12,7 +12,7 @@ use rht_words::{Geometry, Next, Op, places};
 use std::marker::Model;
 
 /// Where a tidying stands. Each state has one operation.
-#[derive(Clone, Copy, Debug, PartialEq, Eq)]
+#[derive(Clone, Copy)]
 pub enum TidyAt {
     /// Loads a caller's section word, which is kept. Callers open and leave sections meanwhile; one
     /// that opens a section behind this load can't reach the nodes.
@@ -29,7 +29,7 @@ pub enum TidyAt {
 /// began to wait has been left. Where no node waits, the fresh ones begin to. The answer is `Clear`,
 /// or `Pending` where a section is still open. It waits for nobody. The kernel's counterpart is the
 /// end of a grace period, behind which `kfree_rcu` frees.
-#[derive(Debug, Drop)]
+#[derive(Drop)]
 pub struct Tidy {
     geometry: Geometry,
     batch: Batch,

@@ -9,7 +9,7 @@ use rht_words::{Geometry, Next, Op, places, slot_of};
 use std::marker::Model;
 
 /// Where the search for the last table stands. Each state has one operation.
-#[derive(Clone, Copy, Debug, PartialEq, Eq)]
+#[derive(Clone, Copy)]
 pub enum LastTableAt {
     /// Loads the future of a table. Others may attach a further one at any time.
     Future { table: u32 },
@@ -27,7 +27,7 @@ pub struct Last {
 }
 
 /// Finds the last table behind another one. The kernel's counterpart is `rhashtable_last_table`.
-#[derive(Clone, Copy, Debug, PartialEq, Eq)]
+#[derive(Clone, Copy)]
 pub struct LastTable {
     geometry: Geometry,
     at: LastTableAt,

@@ -3,7 +3,7 @@
 use rht_chain::Locked;
 
 /// A move of all entries of the current table.
-#[derive(Clone, Copy, Debug, PartialEq, Eq)]
+#[derive(Clone, Copy)]
 pub struct Rehash {
     /// The slot of the current table, which is to be emptied.
     pub root: u32,
@@ -16,7 +16,7 @@ pub struct Rehash {
 }
 
 /// A bucket of the current table that is locked while its entries are moved.
-#[derive(Clone, Copy, Debug, PartialEq, Eq)]
+#[derive(Clone, Copy)]
 pub struct Emptying {
     /// The move of which this is a part.
     pub rehash: Rehash,

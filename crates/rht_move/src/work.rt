@@ -71,7 +71,7 @@ pub enum Outcome {
 /// Where a worker stands. Each state but those that hold a piece has one operation. All but the
 /// first have the work lock: nobody else stores the current table, retires a table, gives one back
 /// that was attached, or moves an entry, while others bind, release and attach tables.
-#[derive(Clone, Copy, Debug, PartialEq, Eq)]
+#[derive(Clone, Copy)]
 pub enum WorkAt {
     /// Takes the work lock, where nobody has it. This and the states up to `RootShape` are those of
     /// `rht_deferred_worker`.

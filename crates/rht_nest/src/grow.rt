@@ -13,7 +13,7 @@ use std::marker::Model;
 
 /// Where the growing of a nested table stands. Each state but those that hold a piece has one
 /// operation.
-#[derive(Clone, Copy, Debug, PartialEq, Eq)]
+#[derive(Clone, Copy)]
 pub enum GrowAt {
     /// Takes a free page.
     Taking { take: TakeRun },
@@ -26,7 +26,7 @@ pub enum GrowAt {
 
 /// Gives a missing page of a nested table. The answer is the page that is there then, whoever entered
 /// it; none where each page was seen taken. The kernel's counterpart is `nested_table_alloc`.
-#[derive(Clone, Copy, Debug, PartialEq, Eq)]
+#[derive(Clone, Copy)]
 pub struct Grow {
     geometry: Geometry,
     entry: usize,

@@ -18,7 +18,7 @@ const SLOTS: u32 = 8;
 
 /// Where the making of a table stands. Each state but those that hold a piece has one operation.
 /// From the exchange that takes the slot on nobody else knows it, until it is attached.
-#[derive(Clone, Copy, Debug, PartialEq, Eq)]
+#[derive(Clone, Copy)]
 pub enum MakeAt {
     /// Exchanges 1 for 0 in the state of a slot. It takes effect here where the slot was free.
     Slot {
@@ -77,7 +77,7 @@ pub enum MakeAt {
 /// Makes an empty table that no future leads to yet. The answer is its slot and the word of its shape;
 /// none where no slot was free, or no run of pages and, where the table may be nested, no page. The
 /// kernel's counterparts are `bucket_table_alloc` and `nested_bucket_table_alloc`.
-#[derive(Clone, Copy, Debug, PartialEq, Eq)]
+#[derive(Clone, Copy)]
 pub struct Make {
     geometry: Geometry,
     exponent: u32,

@@ -13,7 +13,7 @@ use std::marker::Model;
 
 /// Where the giving back of a table stands. Each state but the one that holds a piece has one
 /// operation.
-#[derive(Clone, Copy, Debug, PartialEq, Eq)]
+#[derive(Clone, Copy)]
 pub enum UnmakeAt {
     /// Gives the pages of the buckets back, or the top page of a nested table.
     Giving { give: GiveRun },
@@ -23,7 +23,7 @@ pub enum UnmakeAt {
 
 /// Gives a table back. Whoever gives it back has made it, and nobody reads it. The kernel's
 /// counterpart is `bucket_table_free`.
-#[derive(Clone, Copy, Debug, PartialEq, Eq)]
+#[derive(Clone, Copy)]
 pub struct Unmake {
     geometry: Geometry,
     slot: u32,

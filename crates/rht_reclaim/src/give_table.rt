@@ -18,7 +18,7 @@ const PAGE_WORDS: u32 = 64;
 
 /// Where the giving back of a retired table stands. Each state but the one that holds a piece has one
 /// operation. Nobody else works on the table's words meanwhile.
-#[derive(Clone, Copy, Debug, PartialEq, Eq)]
+#[derive(Clone, Copy)]
 pub enum GiveTableAt {
     /// Loads the shape of the table, which says where its pages are.
     Shape,
@@ -77,7 +77,7 @@ pub enum GiveTableAt {
 /// Gives a retired table back: whoever does so has the work lock, and each section has been left that
 /// was open when the table was retired. The kernel's counterpart is `bucket_table_free`, with
 /// `nested_bucket_table_free`.
-#[derive(Clone, Copy, Debug, PartialEq, Eq)]
+#[derive(Clone, Copy)]
 pub struct GiveTable {
     geometry: Geometry,
     slot: u32,

@@ -10,7 +10,7 @@ use std::marker::Model;
 
 /// Where the keeping of section words stands. Each state has one operation. Callers open and leave
 /// sections meanwhile; one that opens a section behind the load of its word can't reach the table.
-#[derive(Clone, Copy, Debug, PartialEq, Eq)]
+#[derive(Clone, Copy)]
 pub enum KeepSectionsAt {
     /// Loads the section word of a caller.
     Section { caller: u32 },
@@ -21,7 +21,7 @@ pub enum KeepSectionsAt {
 /// Loads the section word of each caller in order and stores it in the slot's word for that caller. From
 /// these words it is told later whether each section has been left that was open when the table was
 /// retired. The kernel's counterpart is the beginning of a grace period, by `call_rcu`.
-#[derive(Clone, Copy, Debug, PartialEq, Eq)]
+#[derive(Clone, Copy)]
 pub struct KeepSections {
     geometry: Geometry,
     slot: u32,

@@ -18,7 +18,7 @@ const RETIRED: u64 = 2;
 
 /// Where it stands. Each state but the one that holds a piece has one operation. Callers open and leave
 /// sections meanwhile; one that opens a section now can't reach a retired table.
-#[derive(Clone, Copy, Debug, PartialEq, Eq)]
+#[derive(Clone, Copy)]
 pub enum ReturnTablesAt {
     /// Loads the state of a slot, which says whether its table is retired.
     State { slot: u32 },
@@ -33,7 +33,7 @@ pub enum ReturnTablesAt {
 /// Goes through all slots and gives back each retired table, unless it finds a section open that was so
 /// when the table was retired. It waits for nobody: such a table stays for a later call. Whoever does so
 /// has the work lock. The kernel's counterpart is what `call_rcu` does behind a grace period.
-#[derive(Clone, Copy, Debug, PartialEq, Eq)]
+#[derive(Clone, Copy)]
 pub struct ReturnTables {
     geometry: Geometry,
     at: ReturnTablesAt,

@@ -16,7 +16,7 @@ use rht_words::{Env, Next, Op, Port, node_of, owner_of};
 use std::marker::{Model, PhantomData};
 
 /// Where a listing stands. Each state but the one that holds a piece has one operation.
-#[derive(Clone, Copy, Debug, PartialEq, Eq)]
+#[derive(Clone, Copy)]
 pub enum AllAt {
     /// Opens the read section, by one more in its caller's section word.
     Opening,

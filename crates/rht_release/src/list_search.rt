@@ -18,7 +18,7 @@ pub struct ListPlace {
 
 /// Where the search for the first node with an owner stands. The port's bucket is locked, so nobody
 /// else changes the list. It is the loop of the kernel's `__rhashtable_remove_fast_one`.
-#[derive(Clone, Copy, Debug, PartialEq, Eq)]
+#[derive(Clone, Copy)]
 pub enum ListSearch {
     /// Loads the owner of a node, behind this one.
     Owner { node: u32, before: Option<u32> },

@@ -31,7 +31,7 @@ pub enum RebindEnd {
 }
 
 /// Where a rebind stands. Each state but those that hold a piece has one operation.
-#[derive(Clone, Copy, Debug, PartialEq, Eq)]
+#[derive(Clone, Copy)]
 pub enum RebindAt {
     /// Takes a free node and stores the port and the new owner in it.
     Filling {

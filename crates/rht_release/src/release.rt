@@ -21,7 +21,7 @@ use std::marker::{Model, PhantomData};
 
 /// Where a release stands. Each state but those that hold a piece has one operation. While it has
 /// found the port the bucket is locked, and nobody else changes its chain or the port's list.
-#[derive(Clone, Copy, Debug, PartialEq, Eq)]
+#[derive(Clone, Copy)]
 pub enum ReleaseAt {
     /// Opens the read section, by one more in its caller's section word.
     Opening,

@@ -15,7 +15,7 @@ use rht_words::{Geometry, Next, Op, Port, places, slot_of, table_of, word_of};
 use std::marker::Model;
 
 /// Where the way to a port stands. Each state but those that hold a piece has one operation.
-#[derive(Clone, Copy, Debug, PartialEq, Eq)]
+#[derive(Clone, Copy)]
 pub enum SeekAt {
     /// Loads which table is the current one.
     CurrentTable,
@@ -49,7 +49,7 @@ pub enum SeekAt {
 /// Finds a port and locks its bucket. The answer is none where no table binds it, and then no
 /// bucket is locked. The kernel's counterpart is the loop over the tables in
 /// `__rhashtable_remove_fast`.
-#[derive(Clone, Copy, Debug, PartialEq, Eq)]
+#[derive(Clone, Copy)]
 pub struct Seek {
     geometry: Geometry,
     at: SeekAt,

@@ -50,7 +50,7 @@ pub enum WalkEnd {
 }
 
 /// Where a walk stands. Each state has one operation.
-#[derive(Clone, Copy, Debug, PartialEq, Eq)]
+#[derive(Clone, Copy)]
 pub enum WalkAt {
     /// Opens the read section, by one more in its caller's section word.
     Opening,
