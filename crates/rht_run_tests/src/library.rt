@@ -2,6 +2,7 @@
 
 ghost use Rattle.std.specs.Prelude.{◌≡◌, true, IfSome};
 ghost use Rattle.rht_core.specs.Locals.{is_idle};
+ghost use Rattle.rht_policy.specs.Mix.{low_mix};
 ghost use Rattle.rht_run.specs.Passes.{IsPassOf, AreNew, IsNew};
 
 use crate::asserts::{SMALL, assert_pairs, assert_same};
@@ -92,6 +93,29 @@ pub fn pair<M: Mix>(table: &Table<M>, mut passes: Vec<Pass<M>>) -> Option<(Pass<
     Some((first, second))
 }
 
+/// What is in the table behind the two threads: what the count says, what each one's pass finds of the other's
+/// port, and what a walk shows.
+type Seen = ([Reply; 3], Option<Vec<(Port, u32)>>);
+
+/// Runs the threads, and looks what is there then.
+fn shared<R: Threads + Wait + Sync>(
+    rt: &R,
+    alloc: Global,
+    table: &Table<Low>,
+    first: Pass<Low>,
+    second: Pass<Low>,
+) -> Result<Seen, AllocError>
+    requires first { IsPassOf low_mix table.now first × (is_idle first.local ≡ true) }
+    requires second { IsPassOf low_mix table.now second × (is_idle second.local ≡ true) }
+{
+    let (mut first, mut second) = both(rt, table, first, second);
+    let counted = table.count(&mut first);
+    let found = table.find(&mut first, Port::plain(6));
+    let other = table.find(&mut second, Port::plain(5));
+    let pairs = walked(alloc, table, &mut first, 1)?;
+    Ok(([counted, found, other], pairs))
+}
+
 #[test]
 fn two_threads_share_a_registry(rt: HostRuntime) -> Result<(), Fail> {
     let config = Config {
@@ -101,17 +125,14 @@ fn two_threads_share_a_registry(rt: HostRuntime) -> Result<(), Fail> {
     assert!(rt; config.is_settled());
     let (table, passes) = Table::<Low>::open(rt.alloc(), config)?;
     let (first, second) = pair(&table, passes).ok_or("two passes")?;
-    let (mut first, mut second) = both(&rt, &table, first, second);
-    let counted = table.count(&mut first);
-    let found = table.find(&mut first, Port::plain(6));
-    let other = table.find(&mut second, Port::plain(5));
+    let (replies, pairs) = shared(&rt, rt.alloc(), &table, first, second)?;
     let want = [
         Reply::Counted { count: 2 },
         Reply::Found { owner: 2 },
         Reply::Found { owner: 2 },
     ];
-    assert_same(&rt, [counted, found, other], want);
-    let pairs = walked(rt.alloc(), &table, &mut first, 1)?.ok_or("a whole walk")?;
+    assert_same(&rt, replies, want);
+    let pairs = pairs.ok_or("a whole walk")?;
     assert_pairs(&rt, pairs.as_slice(), &[(5, 2), (6, 2)]);
     Ok(())
 }

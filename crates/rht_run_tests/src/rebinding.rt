@@ -2,6 +2,7 @@
 
 ghost use Rattle.std.specs.Prelude.{◌≡◌, true, IfSome};
 ghost use Rattle.rht_core.specs.Locals.{is_idle};
+ghost use Rattle.rht_policy.specs.Mix.{low_mix};
 ghost use Rattle.rht_run.specs.Passes.{IsPassOf, AreNew, IsNew};
 
 use crate::asserts::{SMALL, assert_same};
@@ -200,6 +201,48 @@ fn legal_orders(alloc: Global, told: &[u32]) -> Result<u32, AllocError> {
     Ok(count)
 }
 
+/// What the threads were answered, which owners were listed meanwhile, and which behind them.
+#[derive(Clone, Copy)]
+struct Round {
+    rebound: [Reply; 2],
+    listed: Reply,
+    meanwhile: Option<[u32; 3]>,
+    behind: Option<[u32; 3]>,
+}
+
+/// Three owners, where there are just as many.
+fn three_owners(owners: &[u32]) -> Option<[u32; 3]> {
+    if owners.len() == 3 {
+        Some([owners[0], owners[1], owners[2]])
+    } else {
+        None
+    }
+}
+
+/// Runs the three threads on a new table.
+fn played<R: Threads + Wait + Sync>(
+    rt: &R,
+    table: &Table<Low>,
+    first: Pass<Low>,
+    second: Pass<Low>,
+    third: Pass<Low>,
+) -> Round
+    requires first { IsPassOf low_mix table.now first × (is_idle first.local ≡ true) }
+    requires second { IsPassOf low_mix table.now second × (is_idle second.local ≡ true) }
+    requires third { IsPassOf low_mix table.now third × (is_idle third.local ≡ true) }
+{
+    let first = bind_three(rt, table, first);
+    let (rebound, (third, listed)) = all(rt, table, first, second, third);
+    let ((mut first, one), (_, other)) = rebound;
+    table.all(rt, &mut first, Port::plain(80));
+    Round {
+        rebound: [one, other],
+        listed,
+        meanwhile: three_owners(third.owners()),
+        behind: three_owners(first.owners()),
+    }
+}
+
 #[test]
 fn owners_of_one_port_are_replaced_by_two_threads(rt: HostRuntime) -> Result<(), Fail> {
     let config = Config {
@@ -211,15 +254,13 @@ fn owners_of_one_port_are_replaced_by_two_threads(rt: HostRuntime) -> Result<(),
     for _ in 0..200 {
         let (table, passes) = Table::<Low>::open(rt.alloc(), config)?;
         let (first, second, third) = three(&table, passes).ok_or("three passes")?;
-        let first = bind_three(&rt, &table, first);
-        let (rebound, listed) = all(&rt, &table, first, second, third);
-        let ((mut first, one), (_, other)) = rebound;
-        assert_same(&rt, [one, other], [Reply::Rebound, Reply::Rebound]);
-        assert_same(&rt, listed.1, Reply::Listed { len: 3 });
-        assert!(rt; legal_orders(rt.alloc(), listed.0.owners())? > 0);
+        let round = played(&rt, &table, first, second, third);
+        assert_same(&rt, round.rebound, [Reply::Rebound, Reply::Rebound]);
+        assert_same(&rt, round.listed, Reply::Listed { len: 3 });
+        let meanwhile = round.meanwhile.ok_or("three owners")?;
+        assert!(rt; legal_orders(rt.alloc(), &meanwhile)? > 0);
         // Whoever came first, each new owner has the place of the one that it replaced.
-        table.all(&rt, &mut first, Port::plain(80));
-        assert_same(&rt, first.owners(), &[4, 2, 5]);
+        assert_same(&rt, round.behind, Some([4, 2, 5]));
     }
     Ok(())
 }
