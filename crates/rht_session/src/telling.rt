@@ -57,17 +57,17 @@ pub fn told_whole(answer: Result<Reply, Refused>, into: &mut CReply) -> u32
     }
 }
 
-/// Says what a look-up came to. Its two replies have their codes in their own arms, since a look-up from C is short.
+/// Says what a look-up came to.
 pub fn told_found(answer: Result<Reply, Refused>, owner: &mut u32) -> u32
     ensures { IsToldFound answer result owner.old owner.new }
 {
     match answer {
-        Ok(Reply::Found { owner: first }) => {
-            *owner = first;
-            codes::FOUND
+        Ok(reply) => {
+            if let Reply::Found { owner: first } = reply {
+                *owner = first;
+            }
+            code_of(reply)
         }
-        Ok(Reply::Missing) => codes::MISSING,
-        Ok(other) => code_of(other),
         Err(refused) => refusal_code(refused),
     }
 }
