@@ -1,7 +1,7 @@
 -- What the calls of one caller leave, and how they ended, where none about bindings is refused: lists alone, with no run.
 --
 -- Some first entries of which each but the last isn't refused leave what some first calls leave by the model: all of their calls, or all
--- but the last one's, where that one is refused.
+-- but the last one's, where that one is refused. Each of these calls ended as the model answers it.
 use Rattle.std.proofs.Common.{◌≡◌, ◌≢◌, ℕ, zero, suc, ◌+◌, ◌<◌, ◌≤◌, Bool, true, false, cond, List, [], ◌∷◌, ◌++◌, map, take, refl, sym, ◌∙◌, ap, subst, inl, inr, arith}
 use Rattle.std.specs.Prelude.{Option, None, IfSome, is_some}
 use Rattle.std.specs.List.{AllByRecursion}
@@ -105,30 +105,35 @@ AllButLast P (x ∷ y ∷ xs) = P x × AllButLast P (y ∷ xs)
 abbrev pub calls_in : List Entry → List Call
 calls_in entries = map (λ entry. entry.call) entries
 
-module _ (kind : Kind) where
-  -- these are the bindings that so many first calls leave by the model
-  pub record AreAfterSome (before after : Multimap) (calls : List Call) : Type 0 where
-    pub count : ℕ
-    pub is : after ≡ bindings_after_all kind before (take count calls)
+-- the entry isn't refused
+abbrev pub IsTaken : Entry → Type 0
+IsTaken entry = is_refusal entry.reply ≡ false
 
-  left_by-answered : (bindings : Multimap) (entry : Entry) → is_refusal entry.reply ≡ false
-      → left_by kind bindings entry ≡ bindings_after kind bindings entry.call
+module _ (kind : Kind) where
+  left_by-answered : (bindings : Multimap) (entry : Entry) → IsTaken entry → left_by kind bindings entry ≡ bindings_after kind bindings entry.call
   left_by-answered bindings entry answers = rw answers refl
 
+  -- These are the bindings that the calls of so many first entries leave by the model. None of these entries is refused.
+  pub record AreAfterEntries (before after : Multimap) (entries : List Entry) : Type 0 where
+    pub count : ℕ
+    pub is : after ≡ bindings_after_all kind before (take count (calls_in entries))
+    pub answers : AllByRecursion IsTaken (take count entries)
+
   -- by induction over the first entries
-  pub bindings_left-first : (before : Multimap) (low high : List Entry) → AllButLast (λ (entry : Entry). is_refusal entry.reply ≡ false) low
-      → AreAfterSome before (bindings_left kind before low) (calls_in (low ++ high))
-  bindings_left-first before [] high answers = record { count = 0; is = refl }
-  bindings_left-first before (x ∷ []) high answers = go (is_refusal x.reply)
+  pub bindings_left-first : (before : Multimap) (low high : List Entry) → AllButLast IsTaken low
+      → AreAfterEntries before (bindings_left kind before low) (low ++ high)
+  bindings_left-first before [] high answers = record { count = 0; is = refl; answers = tt }
+  bindings_left-first before (x ∷ []) high answers = go (is_refusal x.reply) refl
     where
-      go : (t : Bool) → AreAfterSome before (cond t before (bindings_after kind before x.call)) (x.call ∷ calls_in high)
-      go true = record { count = 0; is = refl }
-      go false = record { count = 1; is = refl }
+      go : (t : Bool) → is_refusal x.reply ≡ t → AreAfterEntries before (cond t before (bindings_after kind before x.call)) (x ∷ high)
+      go true refused = record { count = 0; is = refl; answers = tt }
+      go false here = record { count = 1; is = refl; answers = (here, tt) }
   bindings_left-first before (x ∷ y ∷ low) high answers =
       let others = bindings_left-first (bindings_after kind before x.call) (y ∷ low) high answers.1 in
       record {
         count = suc others.count;
         is = ap (λ left. bindings_left kind left (y ∷ low)) (left_by-answered before x answers.0) ∙ others.is;
+        answers = (answers.0, others.answers);
       }
 
   -- a call that isn't about bindings changes none, and has no answer
@@ -145,35 +150,12 @@ module _ (kind : Kind) where
   answer-other bindings Count other = refl
   answer-other bindings _ other = absurd (cc)
 
-  -- so what some first calls with entries leave is what some first calls leave
-  pub after-told : (c : ℕ) (calls : List Call) (endings : List Ending) (before : Multimap) (count : ℕ)
-      → AreAfterSome before (bindings_after_all kind before (take count (calls_in (entries_told c calls endings)))) calls
-  after-told c calls endings before zero = record { count = 0; is = refl }
-  after-told c [] endings before (suc count) = record { count = 0; is = refl }
-  after-told c (call ∷ calls) [] before (suc count) = record { count = 0; is = refl }
-  after-told c (call ∷ calls) (ending ∷ endings) before (suc count) = go (is_some (port_of call)) refl (after-told c calls endings)
-    where
-      AreAfterOthers : Type 0
-      AreAfterOthers =
-          (bindings : Multimap) (many : ℕ)
-          → AreAfterSome bindings (bindings_after_all kind bindings (take many (calls_in (entries_told c calls endings)))) calls
-
-      go : (t : Bool) → is_some (port_of call) ≡ t → AreAfterOthers
-          → AreAfterSome before (bindings_after_all kind before (take (suc count)
-          (calls_in (cond t (entry_done c (ended_with call ending) ∷ entries_told c calls endings) (entries_told c calls endings)))))
-          (call ∷ calls)
-      go true about told =
-          let others = told (bindings_after kind before call) count in
-          record { count = suc others.count; is = others.is }
-      go false other told =
-          let others = told before (suc count) in
-          record {
-            count = suc others.count;
-            is = others.is
-                ∙ ap (λ left. bindings_after_all kind left (take others.count calls)) (sym (after-other before call other));
-          }
-
-  -- ---- where no call is refused
+  -- so it may end in any way
+  ends-other : (bindings : Multimap) (call : Call) (ending : Ending) → is_some (port_of call) ≡ false → EndsAsAnswered kind bindings call ending
+  ends-other bindings call ending other =
+      subst
+      (λ (o : Option Answer). IfSome o (λ answer. answer ≡ record { reply = without_kick ending.answer.reply; owners = ending.answer.owners }))
+      (sym (answer-other bindings call other)) tt
 
   answered_as : (bindings : Multimap) (call : Call) (ending : Ending) → IsAnswered kind bindings (entry_done 0 (ended_with call ending))
       → EndsAsAnswered kind bindings call ending
@@ -187,6 +169,63 @@ module _ (kind : Kind) where
   is_answered bindings entry answers (inl is) = is
   is_answered bindings entry answers (inr refused) =
       absurd (let refuses = is_refusal-MayRefuse entry.call entry.reply refused.0 in cc)
+
+  -- These are the bindings that so many first calls leave by the model, and each of these ended as it answers them.
+  pub record AreAfterCalls (before after : Multimap) (calls : List Call) (endings : List Ending) : Type 0 where
+    pub count : ℕ
+    pub is : after ≡ bindings_after_all kind before (take count calls)
+    pub answered : EndAsAnswered kind before (take count calls) (take count endings)
+
+  -- So what the calls of some first entries leave, where none of these is refused, is what some first calls leave.
+  pub after-told : (calls : List Call) (endings : List Ending) (before : Multimap) (count : ℕ)
+      → IsLegalFrom kind before (entries_told 0 calls endings) → AllByRecursion IsTaken (take count (entries_told 0 calls endings))
+      → AreAfterCalls before (bindings_after_all kind before (take count (calls_in (entries_told 0 calls endings)))) calls endings
+  after-told calls endings before zero legal answers = record { count = 0; is = refl; answered = tt }
+  after-told [] endings before (suc count) legal answers = record { count = 0; is = refl; answered = tt }
+  after-told (call ∷ calls) [] before (suc count) legal answers = record { count = 0; is = refl; answered = tt }
+  after-told (call ∷ calls) (ending ∷ endings) before (suc count) legal answers =
+      go (is_some (port_of call)) refl legal answers (after-told calls endings)
+    where
+      entry : Entry
+      entry = entry_done 0 (ended_with call ending)
+
+      others_told : List Entry
+      others_told = entries_told 0 calls endings
+
+      -- the other calls, from what this one leaves
+      AreAfterOthers : Type 0
+      AreAfterOthers =
+          (bindings : Multimap) (many : ℕ) → IsLegalFrom kind bindings others_told → AllByRecursion IsTaken (take many others_told)
+          → AreAfterCalls bindings (bindings_after_all kind bindings (take many (calls_in others_told))) calls endings
+
+      go : (t : Bool) → is_some (port_of call) ≡ t
+          → IsLegalFrom kind before (cond t (entry ∷ others_told) others_told)
+          → AllByRecursion IsTaken (take (suc count) (cond t (entry ∷ others_told) others_told))
+          → AreAfterOthers
+          → AreAfterCalls before (bindings_after_all kind before (take (suc count) (calls_in (cond t (entry ∷ others_told) others_told))))
+          (call ∷ calls) (ending ∷ endings)
+      go true about all answered told =
+          let after = bindings_after kind before call in
+          let rest = subst (λ bindings. IsLegalFrom kind bindings others_told) (left_by-answered before entry answered.0) all.1 in
+          let others = told after count rest answered.1 in
+          record {
+            count = suc others.count;
+            is = others.is;
+            answered = (answered_as before call ending (is_answered before entry answered.0 all.0), others.answered);
+          }
+      go false other all answered told =
+          let others = told before (suc count) all answered in
+          let same = sym (after-other before call other) in
+          record {
+            count = suc others.count;
+            is = others.is ∙ ap (λ left. bindings_after_all kind left (take others.count calls)) same;
+            answered = (
+              ends-other before call ending other,
+              subst (λ left. EndAsAnswered kind left (take others.count calls) (take others.count endings)) same others.answered,
+            );
+          }
+
+  -- ---- where no call is refused
 
   -- the entries leave what the model leaves of the calls, which ended as the model answers them
   pub record IsModelled (before : Multimap) (calls : List Call) (endings : List Ending) (entries : List Entry) : Type 0 where
@@ -230,13 +269,7 @@ module _ (kind : Kind) where
           let same = after-other before call other in
           let rest = others before (sym same) all in
           record {
-            answered = (
-              subst
-                  (λ (o : Option Answer).
-                  IfSome o (λ answer. answer ≡ record { reply = without_kick ending.answer.reply; owners = ending.answer.owners }))
-                  (sym (answer-other before call other)) tt,
-              rest.answered,
-            );
+            answered = (ends-other before call ending other, rest.answered);
             leaves = ap (λ left. bindings_left kind left (entries_told 0 calls endings)) (sym same) ∙ rest.leaves;
           }
 
@@ -288,7 +321,7 @@ IsTakenBefore n past = behind_call past < n → IsRefusedForNode past.done.call 
 pub answers-below : (from n : ℕ) (calls : List Past) (low high : List Numbered) → AreInOrder from calls
     → AreEnded (about_bindings calls) (low ++ high) → AllBelow n low → AllByRecursion (IsTakenBefore n) calls
     → AllByRecursion (λ (x : Numbered). x.entry.reply ≢ NoNode) low
-    → AllButLast (λ (entry : Entry). is_refusal entry.reply ≡ false) (history_of low)
+    → AllButLast IsTaken (history_of low)
 answers-below from n calls [] high order ended below taken some = tt
 answers-below from n calls (x ∷ []) high order ended below taken some = tt
 answers-below from n [] (x ∷ y ∷ low) high order ended below taken some = absurd ended
@@ -301,7 +334,7 @@ answers-below from n (past ∷ calls) (x ∷ y ∷ low) high order ended below t
     AreOthers =
         (lows : List Numbered) → AreEnded (about_bindings calls) (lows ++ high) → AllBelow n lows
         → AllByRecursion (λ (z : Numbered). z.entry.reply ≢ NoNode) lows
-        → AllButLast (λ (entry : Entry). is_refusal entry.reply ≡ false) (history_of lows)
+        → AllButLast IsTaken (history_of lows)
 
     go : (t : Bool) → is_some (port_of past.done.call) ≡ t
         → AreEnded (cond t (past ∷ about_bindings calls) (about_bindings calls)) (x ∷ y ∷ low ++ high)

@@ -6,7 +6,8 @@
 --
 -- One worker: by induction over the events, fewer than 16 ports are bound behind each. The entries below an event leave what is bound behind
 -- it. Each but the last is of a call that had ended before, in a run of fewer events, where no bind was refused but for want of a node; so it
--- was answered, and the entries leave what some first commands leave by the model. It is no matter whether the last one is refused.
+-- was answered, and the entries leave what some first commands leave by the model. It is no matter whether the last one is refused. Each of
+-- these first commands ended as the model answers it. So of others nothing has to be known.
 use Rattle.std.proofs.Common.{◌≡◌, ◌≢◌, ℕ, zero, suc, ◌+◌, ◌<◌, ◌≤◌, ◌==◌, Bool, true, false, cond, List, [], ◌∷◌, ◌++◌, length, map, take, refl, sym, ◌∙◌, ap, subst, inl, inr, arith}
 use Rattle.std.specs.Prelude.{Option, IfSome, ◌&&◌, count_by}
 use Rattle.std.specs.List.{AllByRecursion}
@@ -41,7 +42,7 @@ use Rattle.rht_core.specs.Runs.{World, run_of, IsAdmitted, IsAdmittedEvent}
 use Rattle.rht_stands.specs.Closing.{IsClosedOf, current_size}
 use Rattle.rht_core.specs.FewPorts.{BindsAmong, HasFewPorts, IsNoTableMade, IsBindTaken, IsCallTaken, IsForOne}
 use Rattle.rht_core.specs.Laws.{IsPastCall}
-use Rattle.rht_core.specs.NeverRefused.{IsRoomyFor, NoneRefused, EndWith, AreAllTaken, bindings_after_all, IsSmallFor, AreAsModel, RoomyTakesAll, OneWorkerAsModel}
+use Rattle.rht_core.specs.NeverRefused.{IsRoomyFor, NoneRefused, EndWith, AreAllTaken, bindings_after_all, IsSmallFor, EndAsAnswered, AreAsModel, RoomyTakesAll, OneWorkerAsModel}
 use Rattle.rht_core.specs.NodesUsed.{needs_node}
 use Rattle.rht_core.specs.Numbered.{Numbered, history_of}
 use Rattle.rht_core.specs.Replies.{IsRightlyAnswered}
@@ -62,7 +63,7 @@ use Rattle.rht_core.proofs.Histories.CallEnds.{AreEnded}
 use Rattle.rht_core.proofs.Histories.AloneLaw.{left-behind}
 use Rattle.rht_core.proofs.Histories.ToldEntries.{command_parts, FoundSome, command_first, AllByRecursion-behind, entries_told, entries_of_finished-serves, replies-serves, AllByRecursion-in_map, split_at}
 use Rattle.rht_core.proofs.Histories.ToldHistories.{AreBound-Agree, IsServed, serving, ended, finished_are, no_call_there, told}
-use Rattle.rht_core.proofs.Histories.AnsweredInOrder.{IsRefusedForNode, IsRefusedForNode-reply, entries_told-replies, entries_told-caller, calls_in, bindings_left-first, after-told, answered_in_order, entries_of-all, not_refused, IsTakenBefore, answers-below}
+use Rattle.rht_core.proofs.Histories.AnsweredInOrder.{IsTaken, IsRefusedForNode, IsRefusedForNode-reply, entries_told-replies, entries_told-caller, calls_in, bindings_left-first, after-told, answered_in_order, entries_of-all, not_refused, IsTakenBefore, answers-below}
 
 -- ---- calls that serve commands
 
@@ -180,6 +181,16 @@ module _ (M : Type 0) (mix : ℕ → ℕ → ℕ → ℕ) (env : Env) where
 
 -- ---- a run that serves commands
 
+-- As `IsSmallFor`, where the calls ended so. But that few ports are bound is asked only behind such first calls as all ended the way that the
+-- model answers them.
+pub record IsSmallWhileAnswered (config : Config) (calls : List Call) (endings : List Ending) : Type 0 where
+  pub one : config.callers ≡ 1
+  pub first : 16 ≤ first_size config
+  pub keeps_size : config.shrink ≡ false
+  pub nodes : count_by needs_node calls ≤ config.nodes
+  pub few : (n : ℕ) → EndAsAnswered config.kind unbound (take n calls) (take n endings)
+      → ¬ AreBound (bindings_after_all config.kind unbound (take n calls)) 16
+
 module _ (M : Type 0) (mix : ℕ → ℕ → ℕ → ℕ) (env : Env) (auto : Bool) (commands : List (ℕ × Call)) (endings : List (List Ending))
     (events : List Event)
     (admitted : IsAdmitted events) (workers : length endings ≡ env.config.callers)
@@ -232,7 +243,7 @@ module _ (M : Type 0) (mix : ℕ → ℕ → ℕ → ℕ) (env : Env) (auto : Bo
 
   -- ---- one worker
 
-  module _ (small : IsSmallFor env.config (calls_of 1 commands))
+  module _ (small : IsSmallWhileAnswered env.config (calls_of 1 commands) (endings_by 0 endings))
       (some : AllByRecursion FoundSome (w.books 0).finished)
       (history : List Numbered) (fitting : Fits M mix env events history) where
     abbrev kind : Kind
@@ -334,10 +345,11 @@ module _ (M : Type 0) (mix : ℕ → ℕ → ℕ → ℕ) (env : Env) (auto : Bo
         (subst (AreEnded (about_bindings past)) at.is ended_all) at.below (taken_before n within few) found.0 in
         let first = bindings_left-first kind unbound low high answers in
         let same : low ++ high ≡ entries = sym (map-append (λ (x : Numbered). x.entry) at.low at.high) ∙ sym (ap history_of at.is) ∙ entries_are in
-        let after = after-told kind 0 calls (endings_by 0 endings) unbound first.count in
+        let after = after-told kind calls (endings_by 0 endings) unbound first.count (subst (IsLegal kind) entries_are fitting.legal)
+        (subst (λ es. AllByRecursion IsTaken (take first.count es)) same first.answers) in
         let left : bindings_left kind unbound low ≡ bindings_after_all kind unbound (take after.count calls) =
         first.is ∙ ap (λ es. bindings_after_all kind unbound (take first.count (calls_in es))) same ∙ after.is in
-        small.few after.count
+        small.few after.count after.answered
         (subst (λ b. AreBound b 16) left
         (AreBound-Agree (bindings_behind M mix env events n) (bindings_left kind unbound low) 16 agree are))
 
@@ -406,7 +418,7 @@ count-only_first (call ∷ calls) =
 -- where all commands are the worker's
 one_worker_only : (M : Type 0) (mix : ℕ → ℕ → ℕ → ℕ) (config : Config) (auto : Bool) (commands : List (ℕ × Call))
     (endings : List (List Ending)) (closed : Closed)
-    → IsServedRun M mix config auto commands endings closed → IsSmallFor config (calls_of 1 commands)
+    → IsServedRun M mix config auto commands endings closed → IsSmallWhileAnswered config (calls_of 1 commands) (endings_by 0 endings)
     → count_by (λ (command : ℕ × Call). needs_node command.1) commands ≤ config.nodes
     → AreAsModel config.kind (calls_of 1 commands) (endings_by 0 endings) closed
 one_worker_only M mix config auto commands endings closed served small enough =
@@ -417,7 +429,7 @@ one_worker_only M mix config auto commands endings closed served small enough =
     (as_model M mix env auto commands endings served.events served.admitted
     (served.workers ∙ ap (λ (k : Config). k.callers) (sym same))
     (λ c low. served.each c (subst (λ (k : Config). c < k.callers) same low))
-    (subst (λ (k : Config). IsSmallFor k (calls_of 1 commands)) (sym same) small)
+    (subst (λ (k : Config). IsSmallWhileAnswered k (calls_of 1 commands) (endings_by 0 endings)) (sym same) small)
     (subst (AllByRecursion FoundSome) (tells.dones_are 0) (found-nodes config auto commands endings closed history enough tells.told 0))
     tells.numbered tells.fits closed
     (subst (λ (k : Config). Lists closed.bindings.pairs (bindings_left k.kind unbound (entries_told 0 (calls_of 1 commands) (endings_by 0 endings))))
@@ -429,8 +441,11 @@ one_worker_only M mix config auto commands endings closed served small enough =
     (found-nodes config auto commands endings closed history enough tells.told 0))
     tells.told.leaves)))
 
-pub one_worker_as_model : (M : Type 0) (mix : ℕ → ℕ → ℕ → ℕ) → OneWorkerAsModel M mix
-one_worker_as_model M mix config auto commands endings closed served small =
+pub one_worker_while_answered : (M : Type 0) (mix : ℕ → ℕ → ℕ → ℕ) (config : Config) (auto : Bool) (commands : List (ℕ × Call))
+    (endings : List (List Ending)) (closed : Closed)
+    → IsServedRun M mix config auto commands endings closed → IsSmallWhileAnswered config (calls_of 1 commands) (endings_by 0 endings)
+    → AreAsModel config.kind (calls_of 1 commands) (endings_by 0 endings) closed
+one_worker_while_answered M mix config auto commands endings closed served small =
     let calls = calls_of 1 commands in
     let only = calls_of-only_first calls in
     let alone : IsServedRun M mix config auto (only_first calls) endings closed = record {
@@ -450,5 +465,16 @@ one_worker_as_model M mix config auto commands endings closed served small =
     } in
     let enough = small.nodes in
     subst (λ made. AreAsModel config.kind made (endings_by 0 endings) closed) only
-    (one_worker_only M mix config auto (only_first calls) endings closed alone (subst (IsSmallFor config) (sym only) small)
+    (one_worker_only M mix config auto (only_first calls) endings closed alone
+    (subst (λ made. IsSmallWhileAnswered config made (endings_by 0 endings)) (sym only) small)
     (let count = count-only_first calls in omega (arith, count, enough)))
+
+pub one_worker_as_model : (M : Type 0) (mix : ℕ → ℕ → ℕ → ℕ) → OneWorkerAsModel M mix
+one_worker_as_model M mix config auto commands endings closed served small =
+    one_worker_while_answered M mix config auto commands endings closed served record {
+      one = small.one;
+      first = small.first;
+      keeps_size = small.keeps_size;
+      nodes = small.nodes;
+      few = λ n answered. small.few n;
+    }
