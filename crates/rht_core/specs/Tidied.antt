@@ -1,6 +1,6 @@
--- What a call that tidies gives back, and why one waits, in every run.
-use Rattle.std.specs.Prelude.{◌≡◌, ◌↔◌, ℕ, ◌<◌, List, [], length, map, take, Option, Some, None}
-use Rattle.std.specs.List.{AllByRecursion, Any}
+-- What a call that tidies gives back, and why one waits, in every run. And a caller in no call keeps the batch that its last call left.
+use Rattle.std.specs.Prelude.{◌≡◌, ◌↔◌, ℕ, ◌+◌, ◌<◌, true, List, [], length, map, take, Option, Some, None}
+use Rattle.std.specs.List.{AllByRecursion, Any, slice_get}
 use Rattle.rht_words.specs.declared.env.Env.{Env}
 use Rattle.rht_words.specs.declared.geometry.Geometry.{Geometry}
 use Rattle.rht_words.specs.Members.{In}
@@ -11,6 +11,7 @@ use Rattle.rht_grace.specs.TidyLaws.{due_of, left_of, EndsRightly}
 use Rattle.rht_arena.specs.Laws.{map_place, map_bit}
 use Rattle.rht_core.specs.declared.event.Event.{Event}
 use Rattle.rht_callers.specs.Batches.{batch_room}
+use Rattle.rht_callers.specs.Locals.{is_idle}
 use Rattle.rht_core.specs.Runs.{Core, local_of, run_of, IsAdmitted}
 use Rattle.rht_core.specs.Reach.{SetsBit}
 use Rattle.rht_core.specs.Traces.{Did, Past, performed_of, traced_of, behind_call}
@@ -59,3 +60,12 @@ module _ (M : Type 0) (mix : ℕ → ℕ → ℕ → ℕ) where
       (env : Env) (events : List Event) (c : ℕ) → IsAdmitted events
       → AllByRecursion (λ (past : Past). past.done.call ≡ Tidy → HasTidied env events c past)
       ((traced_of {M = M} mix env events).traces c).past
+
+  -- The batch of a caller in no call is the one behind its last call that has ended. No event of another caller touches it.
+  abbrev pub Rests : Type 0
+  Rests =
+      (env : Env) (events : List Event) (c : ℕ) → IsAdmitted events
+      → is_idle (local_of (run_of {M = M} mix env events).core c) ≡ true
+      → (i : ℕ) (last : Past) → let ended = ((traced_of {M = M} mix env events).traces c).past in
+      slice_get ended i ≡ Some last → length ended ≡ i + 1
+      → batch_of (run_of {M = M} mix env events).core c ≡ batch_before env events c (behind_call last)

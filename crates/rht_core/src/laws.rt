@@ -4,7 +4,7 @@ ghost use Rattle.rht_core.specs.Alone.{Alone};
 ghost use Rattle.rht_core.specs.Attached.{Attached, KeepsAtRetiring};
 ghost use Rattle.rht_core.specs.Causes.{Causes};
 ghost use Rattle.rht_core.specs.Counts.{Counted, AtRest, OwnBatches};
-ghost use Rattle.rht_core.specs.Tidied.{Tidied};
+ghost use Rattle.rht_core.specs.Tidied.{Tidied, Rests};
 ghost use Rattle.rht_core.specs.FewPorts.{FewPorts, OneCaller};
 ghost use Rattle.rht_core.specs.Free.{AreFreePagesBlank, AreFreeSlotsUnled};
 ghost use Rattle.rht_core.specs.Kicks.{Kicks};
@@ -276,8 +276,11 @@ pub fn at_rest<M: Mix>()
 /// found of that caller the very word for which the nodes wait, and it is odd.
 ///
 /// It doesn't say that nobody could reach these nodes; that is `safe`.
+///
+/// A caller in no call has the batch that its last call left, whatever others have done since.
 pub fn tidied<M: Mix>()
-    ensures { Tidied M M.mix_of }
+    ensures tidied { Tidied M M.mix_of }
+    ensures rests { Rests M M.mix_of }
 {}
 
 /// In every run a call that was refused has undone what it did; so has a bind that was answered `Exists`, and a

@@ -2,16 +2,17 @@
 -- caller the batch that it is to leave. Its operations are those of the machine that begins with the batch before.
 -- Of each caller it is kept, event by event, what its tidying has given back beside the batch before the call began, and that the machine
 -- which begins with that batch goes on from the present state. That batch is sound, by the invariant.
+-- And a caller in no call has the batch that was there behind its last call, for no event of another caller touches it.
 use Rattle.std.proofs.Common.{◌≡◌, ◌↔◌, ℕ, suc, ◌+◌, ◌/◌, ◌<◌, ◌≤◌, ◌++◌, ◌∷◌, List, [], length, take, drop, get_or, map, true, false, Option, Some, None, refl, sym, ap, ◌∙◌, subst, inl, inr, append_assoc, drop-cons, length-append, arith}
 use Rattle.std.specs.Int.{bit_at}
-use Rattle.std.specs.List.{AllByRecursion}
+use Rattle.std.specs.List.{AllByRecursion, slice_get}
 use Rattle.std.proofs.lemmas.List.{append-nil}
 use Rattle.std.proofs.Math.Seq.{take-append_seam}
 use Rattle.rht_words.specs.declared.env.Env.{Env}
 use Rattle.rht_words.specs.declared.machine.Next.{Next}
 use Rattle.rht_words.specs.declared.machine.Next.TheVariants.{Go, Done}
 use Rattle.rht_words.specs.Operations.{old_of}
-use Rattle.rht_words.proofs.EachElement.{AllByRecursion-append, AllByRecursion-weaker}
+use Rattle.rht_words.proofs.EachElement.{AllByRecursion-append, AllByRecursion-weaker, slice_get-push_last}
 use Rattle.rht_model.specs.declared.history.Call.{Call}
 use Rattle.rht_model.specs.declared.history.Call.TheVariants.{Tidy}
 use Rattle.rht_model.specs.declared.history.Reply.{Reply}
@@ -42,11 +43,11 @@ use Rattle.rht_core.specs.Laws.{view_begun}
 use Rattle.rht_core.specs.Jobs.{tidies, job_of, job_plan}
 use Rattle.rht_core.specs.Runs.{Core, World, View, run_of, local_of, planned_in, view_of, finished_with, book_after, IsAdmitted}
 use Rattle.rht_core.specs.Lookups.{TidiesSoon}
-use Rattle.rht_core.specs.Tidied.{GivesNode, TidiesRightly, HasTidied, Tidied, batch_of, batch_or, batch_before}
+use Rattle.rht_core.specs.Tidied.{GivesNode, TidiesRightly, HasTidied, Tidied, Rests, batch_of, batch_or, batch_before}
 use Rattle.rht_core.specs.Tidyings.{IsTidyingIn}
 use Rattle.rht_core.specs.Traces.{Did, Past, Trace, performed_of, traced_of, trace_begun, trace_did, behind_call, behind_steps}
 use Rattle.rht_core.proofs.Events.BatchesInRuns.{AreSound, sound_before}
-use Rattle.rht_core.proofs.Events.BusyCallers.{ends}
+use Rattle.rht_core.proofs.Events.BusyCallers.{begun_busy, goes_on, ends}
 use Rattle.rht_core.proofs.Events.OwnBatches.{is_tidying}
 use Rattle.rht_core.proofs.Events.Worlds.{run_of-push, step_self, planned-some}
 use Rattle.rht_core.proofs.Events.JobsOfCallers.{nothing-job, is_no_job}
@@ -102,6 +103,10 @@ module _ (M : Type 0) (mix : ℕ → ℕ → ℕ → ℕ) (env : Env) where
     abbrev ComesOn : BatchModel → List Did → Came → Type 0
     ComesOn own steps came = ComesTo env.geometry own steps came × RunsOn env.geometry own steps came
 
+    -- the batch of this caller, by what it does
+    abbrev own_of : Local M → BatchModel
+    own_of local = batch_or env.geometry (batch_room local.doing local.batch)
+
     -- ---- what is kept
 
     record EndedSo (past : Past) : Type 0 where
@@ -115,6 +120,9 @@ module _ (M : Type 0) (mix : ℕ → ℕ → ℕ → ℕ) (env : Env) where
       past : AllByRecursion PastTidied trace.past
       asked : view.book.call ≡ Some Tidy → (m : TidyModel) × (view.local.doing ≡ Tidying m)
       now : (m : TidyModel) → view.local.doing ≡ Tidying m → IsOn (batch_at trace.begin) m trace.steps
+      called : is_idle view.local ≡ false → (call : Call) × (view.book.call ≡ Some call)
+      rested : is_idle view.local ≡ true → (i : ℕ) (last : Past) → slice_get trace.past i ≡ Some last → length trace.past ≡ i + 1
+          → batch_at (behind_call last) ≡ own_of view.local
 
     abbrev KeepsSoFar : List Event → ℕ → View M → Trace → Type 0
     KeepsSoFar so_far caller view trace = caller ≡ c → (rest : List Event) → events ≡ so_far ++ rest → Keeps view trace
@@ -151,10 +159,6 @@ module _ (M : Type 0) (mix : ℕ → ℕ → ℕ → ℕ) (env : Env) where
         (tidy_begins env.geometry own, λ olds. refl)))
         (λ from limit m is. absurd (cc))
 
-    -- the batch of this caller, by what it does
-    abbrev own_of : Local M → BatchModel
-    own_of local = batch_or env.geometry (batch_room local.doing local.batch)
-
     of-core : (core : Core M) (local : Local M) → core.env ≡ env → local_of core c ≡ local → batch_of core c ≡ own_of local
     of-core core local same here =
         ap (λ (e : Env). batch_or e.geometry (batch_room (local_of core c).doing (local_of core c).batch)) same
@@ -177,6 +181,8 @@ module _ (M : Type 0) (mix : ℕ → ℕ → ℕ → ℕ) (env : Env) where
           asked = begun-asked view.local.batch call machine is;
           now = λ m tidies_now.
               subst (λ b. IsOn b m []) (sym own) (begun-come view.local.batch call machine is m tidies_now);
+          called = λ busy. (call, refl);
+          rested = λ idle_now i last place long. absurd (let busy = begun_busy M env c view.local.batch call machine is in cc);
         }
 
     -- ---- an operation
@@ -222,6 +228,11 @@ module _ (M : Type 0) (mix : ℕ → ℕ → ℕ → ℕ) (env : Env) where
       behind-is =
           batch-next more rest all-more (did.index + 1) (let at = made.index in let long = length-append so_far (Step c ∷ []) in omega (arith, at, long))
           ∙ of-core (run_of {M = M} mix env more).core next.0 (runs-in M mix env more).same_env local-then
+
+      -- it is in a call
+      busy : is_idle view.local ≡ false
+      busy = subst (λ (local : Local M). is_idle local ≡ false) made.known.here
+          (nothing-job (local_of made.known.core c).doing ∙ ap is_no_job made.known.step.is)
 
       -- what a tidying comes to
       module _ (m : TidyModel) (same : view.local.doing ≡ Tidying m) where
@@ -318,6 +329,8 @@ module _ (M : Type 0) (mix : ℕ → ℕ → ℕ → ℕ) (env : Env) where
               (sym (ap (λ d. d.0) (goes_so was.0 was.1)) ∙ is)
           | inr none_before ↦ absurd (stays-other view.local.doing did.old none_before other is)
         ];
+        called = λ still. keeps.called busy;
+        rested = λ idle_now i last place long. absurd (let still = goes_on M mix view.local did.old busy none in cc);
       }
 
       -- a call that began at this event and had these operations
@@ -398,17 +411,20 @@ module _ (M : Type 0) (mix : ℕ → ℕ → ℕ → ℕ) (env : Env) where
             soon = subst (λ (s : List Did). length s ≤ tidy_bound env.geometry) (sym are) ended.0.soon;
           }
 
+      -- the calls that have ended then, where the call in progress was this one, and ended so
+      abbrev past_then : Ending → Option Call → List Past
+      past_then ending call =
+          trace.past ++ map (λ done. record { done = done; begin = trace.begin; steps = steps }) (finished_with call ending)
+
       keep_end : (reply : Reply) → next.1 ≡ Some reply → Kept next.0 (Some reply)
       keep_end reply ends_with = record {
         past = AllByRecursion-append PastTidied trace.past _ keeps.past (entries view.book.call refl);
         asked = λ is. absurd (cc);
         now = λ m is. absurd (idle_not m is);
+        called = λ still. absurd (let idle_now = ends M mix view.local did.old reply busy ends_with in cc);
+        rested = λ idle_now. rested_then (keeps.called busy);
       }
         where
-          busy : is_idle view.local ≡ false
-          busy = subst (λ (local : Local M). is_idle local ≡ false) made.known.here
-              (nothing-job (local_of made.known.core c).doing ∙ ap is_no_job made.known.step.is)
-
           idle_not : (m : TidyModel) → next.0.doing ≡ Tidying m → ⊥
           idle_not m is =
               let idle = ends M mix view.local did.old reply busy ends_with in
@@ -419,6 +435,24 @@ module _ (M : Type 0) (mix : ℕ → ℕ → ℕ → ℕ) (env : Env) where
             answer = record { reply = reply; owners = next.0.owners.items };
             pairs = next.0.pairs.items;
           }
+
+          -- the last one ended at this operation, behind which the batch is the caller's
+          rested_then : (call : Call) × (view.book.call ≡ Some call) → (i : ℕ) (last : Past)
+              → slice_get (past_then ending view.book.call) i ≡ Some last → length (past_then ending view.book.call) ≡ i + 1
+              → batch_at (behind_call last) ≡ own_of next.0
+          rested_then (call, is) i last place long =
+              let past : Past = record { done = ended_with call ending; begin = trace.begin; steps = steps } in
+              let count : length (past_then ending (Some call)) ≡ i + 1 =
+              subst (λ made_of. length (past_then ending made_of) ≡ i + 1) is long in
+              let where_is : length trace.past ≡ i = (let both = length-append trace.past (past ∷ []) in omega (arith, both, count)) in
+              let there : slice_get (past_then ending (Some call)) i ≡ Some last =
+              subst (λ made_of. slice_get (past_then ending made_of) i ≡ Some last) is place in
+              let here_is : slice_get (past_then ending (Some call)) i ≡ Some past =
+              ap (slice_get (past_then ending (Some call))) (sym where_is) ∙ slice_get-push_last trace.past past in
+              let same : last ≡ past = (let both = sym there ∙ here_is in cc) in
+              ap (λ (p : Past). batch_at (behind_call p)) same
+              ∙ ap batch_at (behind_steps-push (trace.begin + 1) trace.steps did)
+              ∙ behind-is
 
           entries : (call : Option Call) → view.book.call ≡ call
               → AllByRecursion PastTidied (map (λ done. record { done = done; begin = trace.begin; steps = steps }) (finished_with call ending))
@@ -441,7 +475,13 @@ module _ (M : Type 0) (mix : ℕ → ℕ → ℕ → ℕ) (env : Env) where
 
     keeps_so : IsKeptTraced M mix env KeepsSoFar
     keeps_so = record {
-      opens = λ k mine rest all. record { past = tt; asked = λ is. absurd (cc); now = λ m is. absurd (cc) };
+      opens = λ k mine rest all. record {
+        past = tt;
+        asked = λ is. absurd (cc);
+        now = λ m is. absurd (cc);
+        called = λ busy. absurd (cc);
+        rested = λ idle_now i last place long. absurd (omega (arith, long));
+      };
       stays = λ so_far event k view trace section keeps mine rest all. keeps mine (event ∷ rest) (next_event so_far event rest all);
       begins = λ so_far k call machine index view trace at now idle is keeps mine rest all.
           let next = next_event so_far (Begin k call) rest all in
@@ -481,3 +521,14 @@ tidies_soon M mix env events c admitted =
           is_soon env.geometry (batch_before M mix env events c trace.begin) right.0 right.1 trace.steps (was.0.batch, was.0.at, Go)
           (kept.now was.0 was.1).1;
     }
+
+pub rests : (M : Type 0) (mix : ℕ → ℕ → ℕ → ℕ) → Rests M mix
+rests M mix env events c admitted idle i last place long =
+    let sound = sound_before env mix M events c admitted in
+    let kept = kept_so M mix env events c admitted in
+    let world = world-traced_of M mix env events in
+    let here : (view_of (traced_of {M = M} mix env events).world c).local ≡ local_of (run_of {M = M} mix env events).core c =
+    ap (λ (w : World M). (view_of w c).local) world in
+    of-core M mix env events c sound (run_of {M = M} mix env events).core (view_of (traced_of {M = M} mix env events).world c).local
+    (runs-in M mix env events).same_env (sym here)
+    ∙ sym (kept.rested (ap is_idle here ∙ idle) i last place long)

@@ -1,5 +1,8 @@
-use Rattle.rht_core.proofs.Tracing.TidiesInRuns.{tidied}
+use Rattle.rht_core.proofs.Tracing.TidiesInRuns.{tidied, rests}
 use Rattle.rht_core.proofs.laws.tidied.Goals as goal
 
-pub returns : goal.returns
-returns g c = tidied g.row.M.Denot g.M.Mix.mix_of
+pub returns-clause-tidied : goal.returns-clause-tidied
+returns-clause-tidied g c = tidied g.row.M.Denot g.M.Mix.mix_of
+
+pub returns-clause-rests : goal.returns-clause-rests
+returns-clause-rests g c = rests g.row.M.Denot g.M.Mix.mix_of
