@@ -16,6 +16,8 @@ pub mod CallSteps
 pub mod CallCauses
 -- what a look-up has to show, and that it ends
 pub mod LookupCalls
+-- what a tidying makes of its pass's batch
+pub mod PassTidyings
 -- why a tidying and a walk end
 pub mod ShortCalls
 -- the calls of a command

@@ -1,15 +1,17 @@
 -- What the operations of a pass's call have to show, in one run.
-use Rattle.std.specs.Prelude.{◌≡◌, ℕ, ◌≤◌, Some, List, length}
+use Rattle.std.specs.Prelude.{◌≡◌, ℕ, ◌≤◌, Option, Some, List, length}
 use Rattle.std.specs.List.{slice_get}
 use Rattle.rht_words.specs.declared.env.Env.{Env}
 use Rattle.rht_model.specs.declared.history.Call.{Call}
-use Rattle.rht_model.specs.declared.history.Call.TheVariants.{Find}
+use Rattle.rht_model.specs.declared.history.Call.TheVariants.{Find, Tidy}
 use Rattle.rht_model.specs.declared.history.Reply.{Reply}
 use Rattle.rht_model.specs.Endings.{replied, ended_with}
 use Rattle.rht_core.specs.declared.event.Event.{Event}
 use Rattle.rht_core.specs.Runs.{run_of, IsAdmitted}
-use Rattle.rht_core.specs.Traces.{Past, traced_of}
+use Rattle.rht_core.specs.Traces.{Past, traced_of, behind_call}
 use Rattle.rht_core.specs.Causes.{HasCause}
+use Rattle.rht_grace.specs.Batch.{BatchModel}
+use Rattle.rht_core.specs.Tidied.{batch_or, batch_before}
 use Rattle.rht_core.specs.Lookups.{HasRead, AnswersMoment, IsFoundThroughout}
 use Rattle.rht_find.specs.FindBound.{find_bound}
 use Rattle.rht_run.specs.declared.table.Table.{Table}
@@ -52,3 +54,14 @@ pub record LooksUp (M : Type 0) (mix : ℕ → ℕ → ℕ → ℕ) (port : ℕ)
 -- so it is of this call, in one run
 abbrev pub HasLookedUp : {M : Type 0} → (ℕ → ℕ → ℕ → ℕ) → Table M → ℕ → Reply → Pass M → Pass M → Type 0
 HasLookedUp {M} mix t port reply before now = IsTracedCall mix t (Find port) reply before now (LooksUp M mix port)
+
+-- What holds of a tidying that has ended, and whose caller has this batch now. It has its cause, which says what it gave back and what it left.
+-- And this is what it left.
+pub record LeavesBatch (M : Type 0) (mix : ℕ → ℕ → ℕ → ℕ) (batch : Option BatchModel) (env : Env) (events : List Event) (c : ℕ) (past : Past)
+    : Type 0 where
+  pub caused : HasCause M mix env events c past
+  pub left : batch_or env.geometry batch ≡ batch_before M mix env events c (behind_call past)
+
+-- so it is of this call, in one run, with the batch of the pass
+abbrev pub HasLeftBatch : {M : Type 0} → (ℕ → ℕ → ℕ → ℕ) → Table M → Reply → Pass M → Pass M → Type 0
+HasLeftBatch {M} mix t reply before now = IsTracedCall mix t Tidy reply before now (LeavesBatch M mix now.local.batch)

@@ -10,6 +10,8 @@ pub mod Passes
 pub mod ClosingSpaces
 -- what the operations of a call have to show
 pub mod Caused
+-- what a tidying makes of its pass's batch
+pub mod Tidying
 -- what the calls of a command leave
 pub mod Served
 -- what callers leave that have served commands

@@ -9,8 +9,9 @@ ghost use Rattle.rht_core.specs.Replies.{IsFindReply, IsBindReply, IsReleaseRepl
 ghost use Rattle.rht_grace.specs.TidyLaws.{tidy_bound};
 ghost use Rattle.rht_run.specs.declared.pass.Pass.{Pass as PassOf};
 ghost use Rattle.rht_run.specs.Rule.{MayBegin};
-ghost use Rattle.rht_run.specs.Passes.{IsPassOf, IsCalling, IsSamePass, HasCalled, Turned, HasGone, EndsWithin};
-ghost use Rattle.rht_run.specs.Caused.{IsCaused, HasLookedUp};
+ghost use Rattle.rht_run.specs.Passes.{IsPassOf, IsCalling, IsSamePass, HasCalled, Turned, HasGone};
+ghost use Rattle.rht_run.specs.Caused.{IsCaused, HasLookedUp, HasLeftBatch};
+ghost use Rattle.rht_run.specs.Tidying.{HasTidiedBatch};
 
 use crate::finding::looked_up;
 use crate::pass::Pass;
@@ -48,24 +49,6 @@ impl<M: Mix> Table<M> {
         ensures gone { HasGone M.mix_of self.now None pass.old result pass.new }
     {
         self.go::<Brand>(pass, None)
-    }
-
-    /// A call that has no more than so many operations, so nothing stands behind its loop.
-    fn finish(&self, pass: &mut Pass<M>, call: Call, most: u64) -> Reply
-        requires pass { IsPassOf M.mix_of self.now pass.old }
-        requires may { MayBegin self.now.env pass.old.number call pass.old.local }
-        requires few { EndsWithin M.mix_of self.now call most }
-        ensures { HasCalled M.mix_of self.now call result pass.old pass.new }
-    {
-        if let Some(reply) = self.start(pass, call) {
-            return reply;
-        }
-        for rounds in 0..most {
-            if let Some(reply) = self.step(pass) {
-                return reply;
-            }
-        }
-        unreachable!()
     }
 
     /// A call that may wait for other callers.
@@ -288,18 +271,29 @@ impl<M: Mix> Table<M> {
         ensures called { HasCalled M.mix_of self.now Tidy result pass.old pass.new }
         ensures reply { IsTidyReply result }
         ensures cause { IsCaused M.mix_of self.now Tidy result pass.old pass.new }
+        ensures left { HasLeftBatch M.mix_of self.now result pass.old pass.new }
+        ensures batch { HasTidiedBatch self.now result pass.old pass.new }
     {
         self.tidied(pass)
     }
 
-    /// Tidies, operation by operation.
+    /// Tidies, operation by operation. It has no more than so many, so nothing stands behind its loop.
     fn tidied(&self, pass: &mut Pass<M>) -> Reply
         requires pass { IsPassOf M.mix_of self.now pass.old }
         requires idle { is_idle pass.old.local ≡ true }
-        ensures { HasCalled M.mix_of self.now Tidy result pass.old pass.new }
+        ensures called { HasCalled M.mix_of self.now Tidy result pass.old pass.new }
+        ensures batch { HasTidiedBatch self.now result pass.old pass.new }
     {
+        if let Some(reply) = self.start(pass, Call::Tidy) {
+            return reply;
+        }
         let most = most_of_tidying(self.env.geometry);
-        self.finish(pass, Call::Tidy, most)
+        for rounds in 0..most {
+            if let Some(reply) = self.step(pass) {
+                return reply;
+            }
+        }
+        unreachable!()
     }
 
     /// Counts the bound ports: `Counted`. The ports bound where it loaded the count were at most so many,
