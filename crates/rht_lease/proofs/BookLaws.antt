@@ -75,7 +75,7 @@ cancel-many : (has : Bool) (port owner : ℕ) (answer : Answer) (endings : List 
 cancel-many true port owner answer endings own = ap length own.one
 cancel-many false port owner answer endings bare = ap length bare.none
 
-IsAnswer-many : (leases : List Lease) (ask : LeaseCall) (answer : Answer) (endings : List Ending) → IsAnswer leases ask answer endings
+pub IsAnswer-many : (leases : List Lease) (ask : LeaseCall) (answer : Answer) (endings : List Ending) → IsAnswer leases ask answer endings
     → length endings ≡ length (calls_for leases ask)
 IsAnswer-many leases (asks.Plain call) answer endings own = ap length own.one
 IsAnswer-many leases (asks.Lease lease) answer endings own = ap length own.one

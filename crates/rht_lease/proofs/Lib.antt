@@ -18,5 +18,9 @@ pub mod LeaseRuns
 pub mod SweptLeases
 -- what follows for books
 pub mod BookLaws
+-- the calls of one worker, as long as they ended as the model answers them
+pub mod ModelledLeases
+-- what the model makes of some commands
+pub mod WorkedLeases
 -- what follows for the calls that commands stand for
 pub mod ScriptLaws

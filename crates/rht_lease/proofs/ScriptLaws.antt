@@ -1,7 +1,7 @@
 -- What the commands of a script say of the calls that they stand for: no more of these want a node than commands bind or rebind, and they bind
--- no other ports. So where the table is roomy for the commands, it is roomy for the calls, and enough for one worker where it has nodes enough
--- for the commands. And a history tells of what the workers leave.
-use Rattle.std.proofs.Common.{◌≡◌, ℕ, ◌<◌, ◌≤◌, Bool, true, false, cond, List, [], ◌∷◌, length, map, refl, arith}
+-- no other ports. So where the table is roomy for the commands, it is roomy for the calls. Where it is enough for one worker's commands, its
+-- calls are those of the model, which answers each. And a history tells of what the workers leave.
+use Rattle.std.proofs.Common.{◌≡◌, ℕ, ◌<◌, ◌≤◌, Bool, true, false, cond, List, [], ◌∷◌, length, map, take, get_or, refl, sym, ◌∙◌, subst, arith}
 use Rattle.std.specs.Prelude.{count_by, filter}
 use Rattle.std.specs.List.{AllByRecursion}
 use Rattle.std.proofs.lemmas.List.Sums.{sum_by-cons, sum_by-append}
@@ -9,11 +9,15 @@ use Rattle.rht_words.proofs.EachElement.{AllByRecursion-append, AllByRecursion-m
 use Rattle.rht_words.specs.declared.config.Config.{Config}
 use Rattle.rht_model.specs.declared.history.Call.{Call}
 use Rattle.rht_model.specs.declared.history.Call.TheVariants.{Release}
-use Rattle.rht_model.specs.Multimap.{Port}
+use Rattle.rht_model.specs.Multimap.{Port, unbound}
 use Rattle.rht_core.specs.FewPorts.{BindsAmong}
-use Rattle.rht_core.specs.NeverRefused.{IsRoomyFor}
+use Rattle.rht_core.specs.NeverRefused.{IsRoomyFor, bindings_after_all, EndAsAnswered}
 use Rattle.rht_core.specs.NodesUsed.{needs_node}
+use Rattle.rht_core.specs.ToldHistories.{endings_by}
+use Rattle.rht_core.proofs.Histories.NeverRefused.{one_worker_while_answered}
 use Rattle.rht_core.proofs.Histories.ToldHistories.{told}
+use Rattle.rht_stands.specs.StandsFor.{AreBound}
+use Rattle.rht_run.specs.ServedRuns.{tag_of}
 use Rattle.rht_policy.specs.Mix.{mix_named}
 use Rattle.rht_workers.proofs.WorkerCommands.{one_if, commands_of-each, calls_from-each, all_calls_want, first_calls_want}
 use Rattle.rht_lease.specs.declared.lease.Lease.{Lease}
@@ -22,6 +26,9 @@ use Rattle.rht_lease.specs.declared.lease.LeaseCall.TheVariants as asks
 use Rattle.rht_lease.specs.Answers.{Answer, calls_in_turn, commands_of, own_calls, all_calls}
 use Rattle.rht_lease.specs.Books.{has_lease, is_ended, release_of, book_after, calls_for}
 use Rattle.rht_lease.specs.Laws.{asks_node, AsksAmong, OutnumbersByCommands, IsRoomyForLeases, TakesAllWhereRoomy, AnswersAsModel, HistoryFits}
+use Rattle.rht_lease.specs.Modelled.{nothing_leased}
+use Rattle.rht_lease.proofs.LeaseRuns.{calls_of-all}
+use Rattle.rht_lease.proofs.ModelledLeases.{few-turn, calls-turn, book-turn}
 
 -- ---- nodes
 
@@ -115,16 +122,37 @@ takes_all config auto commands answers closed leasing roomy = leasing.run.roomy 
 
 pub as_model : AnswersAsModel
 as_model config auto commands answers closed leasing small =
-    let some : 0 < length answers =
-    (let one = small.one in let workers = leasing.answered.workers in omega (arith, one, workers)) in
-    let few = first_calls_want asks_node (own_calls commands) needs_node commands (λ worker own. in_turn_wants [] (commands_of worker commands) own)
+    let asked = commands_of 1 commands in
+    let own = get_or answers 0 [] in
+    let endings = endings_by 0 leasing.endings in
+    let one = small.one in
+    let enough = small.nodes in
+    let some : 0 < length answers = (let workers = leasing.answered.workers in omega (arith, one, workers)) in
+    let calls_are = calls_of-all commands 0 answers some in
+    let answered = leasing.answered.each 0 (omega (arith, one)) in
+    let wanted = first_calls_want asks_node (own_calls commands) needs_node commands (λ worker own. in_turn_wants [] (commands_of worker commands) own)
     [] answers some in
-    leasing.run.small record {
+    let modelled =
+    one_worker_while_answered (tag_of config.hash) (mix_named config) config auto (all_calls commands answers) leasing.endings closed
+    leasing.run.served record {
       one = small.one;
       first = small.first;
       keeps_size = small.keeps_size;
-      nodes = (let enough = small.nodes in omega (arith, few, enough));
-      few = small.few;
+      nodes = omega (arith, wanted, enough);
+      few =
+          subst
+          (λ calls. (n : ℕ) → EndAsAnswered config.kind unbound (take n calls) (take n endings)
+          → ¬ AreBound (bindings_after_all config.kind unbound (take n calls)) 16)
+          (sym calls_are) (few-turn config.kind nothing_leased asked own endings answered small.few);
+    } in
+    record {
+      made = calls_are
+          ∙ calls-turn config.kind nothing_leased asked own endings answered
+          (subst (λ calls. EndAsAnswered config.kind unbound calls endings) calls_are modelled.answered);
+      ended = modelled;
+      kept =
+          book-turn config.kind nothing_leased asked own endings answered
+          (subst (λ calls. EndAsAnswered config.kind unbound calls endings) calls_are modelled.answered);
     }
 
 -- ---- what the workers leave

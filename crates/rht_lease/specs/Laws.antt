@@ -1,5 +1,5 @@
 -- What follows for books and for the calls that commands stand for, in the words of leases and of the script's commands.
-use Rattle.std.specs.Prelude.{◌≡◌, ℕ, ◌+◌, ◌<◌, ◌≤◌, ◌↔◌, ◌&&◌, ◌==◌, not, Bool, true, false, Some, List, [], length, take, drop, count_by, slice_get}
+use Rattle.std.specs.Prelude.{◌≡◌, ℕ, ◌+◌, ◌<◌, ◌≤◌, ◌↔◌, ◌&&◌, ◌==◌, not, Bool, true, false, Some, List, [], length, take, drop, count_by, slice_get, slice_index_or}
 use Rattle.std.specs.List.{AllByRecursion}
 use Rattle.rht_words.specs.declared.config.Config.{Config}
 use Rattle.rht_words.specs.Sizes.{first_size}
@@ -8,9 +8,9 @@ use Rattle.rht_model.specs.declared.history.Call.{Call}
 use Rattle.rht_model.specs.declared.history.Call.TheVariants.{Bind, Find, All, Release, Rebind, Walk, Work, Tidy, Count}
 use Rattle.rht_model.specs.Endings.{Ending}
 use Rattle.rht_model.specs.declared.history.Entry.{Entry}
-use Rattle.rht_model.specs.Multimap.{Port, unbound}
+use Rattle.rht_model.specs.Multimap.{Port}
 use Rattle.rht_core.specs.FewPorts.{BindsAmong}
-use Rattle.rht_core.specs.NeverRefused.{AreAllTaken, bindings_after_all, AreAsModel}
+use Rattle.rht_core.specs.NeverRefused.{AreAllTaken, AreAsModel}
 use Rattle.rht_core.specs.NodesUsed.{needs_node}
 use Rattle.rht_core.specs.Serving.{calls_of}
 use Rattle.rht_core.specs.ToldHistories.{endings_by, IsOutnumbered, TellsOf}
@@ -21,9 +21,10 @@ use Rattle.rht_lease.specs.declared.lease.LeaseCall.TheVariants as asks
 use Rattle.rht_lease.specs.declared.lease.LeaseReply.TheVariants.{NoLease}
 use Rattle.rht_lease.specs.declared.lease.LeaseScript.{LeaseScript}
 use Rattle.rht_lease.specs.declared.outcome.LeaseOutcome.{LeaseOutcome}
-use Rattle.rht_lease.specs.Answers.{Answer, IsAnswer, book_left, calls_in_turn, AreAnswered, is_lease, all_calls}
+use Rattle.rht_lease.specs.Answers.{Answer, IsAnswer, book_left, calls_in_turn, AreAnswered, is_lease, commands_of, all_calls}
 use Rattle.rht_lease.specs.Books.{is_lease_of, has_lease, is_ended, lasting, sweep_calls, calls_for}
 use Rattle.rht_lease.specs.Leasing.{IsLeasedBy, IsLeasing}
+use Rattle.rht_lease.specs.Modelled.{nothing_leased, behind_commands, modelled_calls}
 
 -- ---- books
 
@@ -132,20 +133,29 @@ TakesAllWhereRoomy =
 -- ---- one worker
 
 -- The table has one worker, begins with 16 buckets or more and doesn't shrink, and has as many nodes as there are commands that bind or rebind,
--- or more. After each of the calls that the commands stand for, by these answers, fewer than 16 ports are bound by the model.
-pub record IsSmallForLeases (config : Config) (commands : List (ℕ × LeaseCall)) (answers : List (List Answer)) : Type 0 where
+-- or more. Behind each command fewer than 16 ports are bound by the model, which goes by the commands alone (`behind_commands`).
+pub record IsSmallForLeases (config : Config) (commands : List (ℕ × LeaseCall)) : Type 0 where
   pub one : config.callers ≡ 1
   pub first : 16 ≤ first_size config
   pub keeps_size : config.shrink ≡ false
   pub nodes : count_by (λ command. asks_node command.1) commands ≤ config.nodes
-  pub few : (n : ℕ) → ¬ AreBound (bindings_after_all config.kind unbound (take n (calls_of 1 (all_calls commands answers)))) 16
+  pub few : (n : ℕ) → ¬ AreBound (behind_commands config.kind nothing_leased (take n (commands_of 1 commands))).bindings 16
 
--- Then each of these calls about bindings is answered as the model answers it, in their order, and what was closed is what the model leaves.
+-- The worker's calls are those that the model makes of its commands. Each about bindings ended as the model answers it, in their order. What was
+-- closed is what the model leaves. Before each command, and behind all, the worker's book has the leases that the model keeps.
+pub record AreAsModelled (config : Config) (commands : List (ℕ × LeaseCall)) (answers : List (List Answer)) (endings : List Ending) (closed : Closed)
+    : Type 0 where
+  pub made : calls_of 1 (all_calls commands answers) ≡ modelled_calls config.kind nothing_leased (commands_of 1 commands)
+  pub ended : AreAsModel config.kind (calls_of 1 (all_calls commands answers)) endings closed
+  pub kept : (n : ℕ) → book_left [] (take n (commands_of 1 commands)) (take n (slice_index_or answers 0 []))
+      ≡ (behind_commands config.kind nothing_leased (take n (commands_of 1 commands))).leases
+
+-- So it is of what such commands leave.
 abbrev pub AnswersAsModel : Type 0
 AnswersAsModel =
     (config : Config) (auto : Bool) (commands : List (ℕ × LeaseCall)) (answers : List (List Answer)) (closed : Closed)
-    → (leasing : IsLeasing config auto commands answers closed) → IsSmallForLeases config commands answers
-    → AreAsModel config.kind (calls_of 1 (all_calls commands answers)) (endings_by 0 leasing.endings) closed
+    → (leasing : IsLeasing config auto commands answers closed) → IsSmallForLeases config commands
+    → AreAsModelled config commands answers (endings_by 0 leasing.endings) closed
 
 -- ---- what the workers leave
 

@@ -14,6 +14,8 @@ pub mod Reading
 pub mod ServedLeases
 -- what the commands of all workers leave
 pub mod Leasing
+-- what the model makes of a worker's commands alone
+pub mod Modelled
 -- the text of that
 pub mod Text
 -- what follows from the definitions alone

@@ -41,8 +41,8 @@ pub fn roomy()
     ensures { TakesAllWhereRoomy }
 {}
 
-/// Where one worker has few ports bound at a time, each of its calls about bindings is answered as the model
-/// answers it.
+/// Where the table is enough for one worker's commands, its calls are those that the model makes of them. Each about
+/// bindings is answered as the model answers it.
 pub fn small()
     ensures { AnswersAsModel }
 {}
