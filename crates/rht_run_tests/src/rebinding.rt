@@ -5,6 +5,7 @@ ghost use Rattle.rht_core.specs.Locals.{is_idle};
 ghost use Rattle.rht_policy.specs.Mix.{low_mix};
 ghost use Rattle.rht_run.specs.Passes.{IsPassOf, AreNew, IsNew};
 
+use crate::asked::{Asked, ask};
 use crate::asserts::{SMALL, assert_same};
 use rht_model::{Call, Entry, Owners, Reply, is_legal};
 use rht_policy::{Low, Mix};
@@ -36,39 +37,44 @@ fn bind_three<M: Mix, R: Wait>(rt: &R, table: &Table<M>, mut pass: Pass<M>) -> P
     ensures pass { IsPassOf M.mix_of table.now result }
     ensures idle { is_idle result.local ≡ true }
 {
-    table.bind(rt, &mut pass, Port::plain(80), 1);
-    table.bind(rt, &mut pass, Port::plain(80), 2);
-    table.bind(rt, &mut pass, Port::plain(80), 3);
+    ask(rt, table, &mut pass, Asked::Bind { port: 80, owner: 1 });
+    ask(rt, table, &mut pass, Asked::Bind { port: 80, owner: 2 });
+    ask(rt, table, &mut pass, Asked::Bind { port: 80, owner: 3 });
     pass
 }
 
-/// Puts a new owner in the place of one of port 80.
-fn replace<M: Mix, R: Wait>(
+/// What a thread does: it makes this call.
+fn answered<M: Mix, R: Wait>(
     rt: &R,
     table: &Table<M>,
     mut pass: Pass<M>,
-    owner: u32,
-    new: u32,
+    asked: Asked,
 ) -> (Pass<M>, Reply)
     requires pass { IsPassOf M.mix_of table.now pass }
     requires idle { is_idle pass.local ≡ true }
     ensures pass { IsPassOf M.mix_of table.now result.0 }
     ensures idle { is_idle result.0.local ≡ true }
 {
-    let reply = table.rebind(rt, &mut pass, Port::plain(80), owner, new);
+    let reply = ask(rt, table, &mut pass, asked);
     (pass, reply)
 }
 
+/// Puts owner 4 in the place of owner 3 of port 80.
+const REPLACE_3: Asked = Asked::Rebind {
+    port: 80,
+    owner: 3,
+    new: 4,
+};
+
+/// Puts owner 5 in the place of owner 1 of port 80.
+const REPLACE_1: Asked = Asked::Rebind {
+    port: 80,
+    owner: 1,
+    new: 5,
+};
+
 /// Lists the owners of port 80.
-fn list<M: Mix, R: Wait>(rt: &R, table: &Table<M>, mut pass: Pass<M>) -> (Pass<M>, Reply)
-    requires pass { IsPassOf M.mix_of table.now pass }
-    requires idle { is_idle pass.local ≡ true }
-    ensures pass { IsPassOf M.mix_of table.now result.0 }
-    ensures idle { is_idle result.0.local ≡ true }
-{
-    let reply = table.all(rt, &mut pass, Port::plain(80));
-    (pass, reply)
-}
+const LIST: Asked = Asked::All { port: 80 };
 
 /// Two threads replace the owners 3 and 1.
 fn both<M: Mix + Send + Sync, R: Threads + Wait + Sync>(
@@ -86,8 +92,8 @@ fn both<M: Mix + Send + Sync, R: Threads + Wait + Sync>(
 {
     join(
         rt,
-        move || replace(rt, table, first, 3, 4),
-        move || replace(rt, table, second, 1, 5),
+        move || answered(rt, table, first, REPLACE_3),
+        move || answered(rt, table, second, REPLACE_1),
     )
 }
 
@@ -118,7 +124,7 @@ fn all<M: Mix + Send + Sync, R: Threads + Wait + Sync>(
             ensures first { IsPassOf M.mix_of table.entry.now result.0.0 }
             ensures first_idle { is_idle result.0.0.local ≡ true }
         { both(rt, table, first, second) },
-        move || list(rt, table, third),
+        move || answered(rt, table, third, LIST),
     )
 }
 
@@ -234,7 +240,7 @@ fn played<R: Threads + Wait + Sync>(
     let first = bind_three(rt, table, first);
     let (rebound, (third, listed)) = all(rt, table, first, second, third);
     let ((mut first, one), (_, other)) = rebound;
-    table.all(rt, &mut first, Port::plain(80));
+    ask(rt, table, &mut first, LIST);
     Round {
         rebound: [one, other],
         listed,
