@@ -26,11 +26,11 @@ pub enum Asked {
     Work,
     Tidy,
     Count,
-    /// A bind as a command.
+    /// A bind as a command, with the work that its reply asks for where `auto` is set.
     Command { port: u64, owner: u32, auto: bool },
 }
 
-/// Makes the call. Of what its clauses say no more is known behind it than the next call needs.
+/// Makes the call. Of all that its clauses say, only what the next call needs is known afterwards.
 pub fn ask<M: Mix, R: Wait>(rt: &R, table: &Table<M>, pass: &mut Pass<M>, asked: Asked) -> Reply
     requires pass { IsPassOf M.mix_of table.now pass.old }
     requires idle { is_idle pass.old.local ≡ true }
@@ -58,7 +58,7 @@ pub fn ask<M: Mix, R: Wait>(rt: &R, table: &Table<M>, pass: &mut Pass<M>, asked:
     }
 }
 
-/// A call with what is wanted of it: its reply, and the owners and the pairs that its pass has then.
+/// A call, the reply that is wanted, and the owners and the pairs that its pass is to have then.
 #[derive(Clone, Copy)]
 pub struct Row<'a> {
     asked: Asked,
