@@ -129,7 +129,7 @@ fn all<M: Mix + Send + Sync, R: Threads + Wait + Sync>(
 }
 
 /// What a call of port 80 was answered.
-#[derive(Clone, Copy, Debug)]
+#[derive(Clone, Copy)]
 enum Line {
     Bound { owner: u32 },
     Rebound { owner: u32, new: u32 },
