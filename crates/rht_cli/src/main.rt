@@ -4,24 +4,13 @@
 //! of leases with a book for each worker, judges a claimed history, and does a script whose walks come in
 //! pieces.
 //!
-//! Stands on `rht_script`, `rht_registry`, `rht_deal`, `rht_lease`, `rht_check`, `rht_resume` and `rht_run`, and
-//! below them on `rht_model`, `rht_policy`, `rht_words` and `rht_io`; the definitions of `rht_core` say what a run
-//! is. `program` has the top call and its theorem; `main` here only makes the real source, sinks and gate.
-//!
-//! A script's commands are done, and its schedule is replayed, by `rht_registry`, whose table is closed by
-//! `rht_run`. Dealt scripts are done by `rht_deal`, lease scripts by `rht_lease` and resume scripts by
-//! `rht_resume`, which close tables of their own. Claims are judged by `rht_check`.
+//! Stands on `rht_forms`, which serves all these forms. Its `program` has the top call and its theorem, and its `laws` what
+//! follows for a run that nothing outside can fail; both are passed on by their names. `main` here only makes the real
+//! source, sinks and gate.
 #![tactic(auto)]
 
-mod ending;
-mod form;
-mod input;
-pub mod laws;
-pub mod program;
-#[cfg(test)]
-mod tests;
-
-use ending::{Ending, Failure};
+pub use rht_forms::{laws, program};
+use rht_forms::{Ending, Failure};
 use rht_io::{InputSource, NoGate, OutputSink};
 use std::alloc::AllocError;
 use std::env;

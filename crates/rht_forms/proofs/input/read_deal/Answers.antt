@@ -1,0 +1,14 @@
+use Rattle.std.proofs.Common.{◌≡◌, ℕ, List, Ok, subst}
+use Rattle.rht_script.specs.Dealt.{dealing_of}
+use Rattle.rht_script.specs.Reading.{said_by}
+use Rattle.rht_forms.proofs.ToldInput.{deal_bounded, IsReadAs-read}
+use Rattle.rht_forms.proofs.input.read_deal.Goals as goal
+
+pub returns-clause-read : goal.returns-clause-read
+returns-clause-read g c =
+    let left = g.S.Source.left in
+    let bytes = c.in_ok-bytes.bytes.items in
+    let said = said_by c.in_ok-read_dealt.field-0 in
+    let is_script : dealing_of bytes ≡ Ok said =
+    subst (λ (l : List ℕ). dealing_of l ≡ Ok said) c.deref.ensures.value c.in_ok-read_dealt.ensures.script in
+    IsReadAs-read dealing_of deal_bounded (left c.args.source.now) (left c.read_all.new.source) bytes said c.in_ok-bytes.ensures.read is_script
