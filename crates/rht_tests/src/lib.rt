@@ -1,7 +1,7 @@
-//! The tests of `rht_registry`, `rht_deal`, `rht_lease`, `rht_resume` and `rht_session`: scripts done on a running
-//! table and dealt, scripts whose bindings end, walks in pieces, replays, and handles of tables.
+//! The tests of `rht_registry`, `rht_deal`, `rht_lease` and `rht_resume`: scripts done on a running table and dealt,
+//! scripts whose bindings end, walks in pieces, and replays.
 //!
-//! There is no code here but tests. They use what the five crates hand out, and stand in a crate of
+//! There is no code here but tests. They use what the four crates hand out, and stand in a crate of
 //! their own since a crate with tests is proved twice, with them and without.
 #![tactic(auto)]
 
@@ -21,7 +21,5 @@ mod replaying;
 mod resume_reading;
 #[cfg(test)]
 mod resuming;
-#[cfg(test)]
-mod sessions;
 #[cfg(test)]
 mod turns;
