@@ -9,9 +9,6 @@ ghost use Rattle.rht_words.specs.Places.{words_in, IsBucketPlace};
 ghost use Rattle.rht_nest.specs.Place.{entered, read_place, IsPlaceIn, IsEnteredIn};
 ghost use Rattle.rht_stands.specs.StandsFor.{page_word, bucket_in, bucket_nodes, table_nodes, has_key, first_node, stands_for};
 
-#[cfg(test)]
-mod tests;
-
 use rht_nest::{Place, flat_place, is_nested};
 use rht_words::{
     Geometry, Port, Shape, Start, head_of, node_of, owner_of, page_of, places, slot_of, table_of,

@@ -1,4 +1,6 @@
-//! What words stand for at a closing, and in words that no run gives.
+//! What words stand for at a closing, and in words that no run gives. What is nested stands in `nested`.
+
+mod nested;
 
 ghost use Rattle.std.specs.Prelude.{◌≡◌};
 
@@ -7,23 +9,32 @@ use super::{FIND_5, NET_3_PORT_5, assert_owners, assert_same, bind, reply_to, sm
 use rht_core::{Event, State};
 use rht_model::Closed;
 use rht_policy::Low;
-use rht_words::{Geometry, word_of};
+use rht_words::{Config, Geometry, word_of};
 use std::alloc::Global;
 use std::process::Abort;
 use std::test::Fail;
 
-/// What the table of one caller, who is idle, holds at its closing. It has 64 buckets.
-fn closed_at(rt: &impl Abort, state: &State<Low>) -> Result<Closed, Fail>
+/// What the table of one caller, who is idle, holds at its closing. The table behind the first one has this
+/// shape.
+fn closed_at(rt: &impl Abort, state: &State<Low>, shape: u64) -> Result<Closed, Fail>
     requires { state.now.env.geometry.callers ≡ 1 }
 {
     assert!(rt; state.local(0).is_idle());
-    assert_same(rt, state.size(), 64);
-    Ok(state.closed()?)
+    assert_same(rt, state.words().get(56).copied(), Some(shape));
+    let closed = state.closed()?;
+    assert_same(rt, state.size(), closed.size);
+    Ok(closed)
 }
 
-/// What a small table holds at its closing, when its caller has made these calls.
-fn closed_after(rt: &impl Abort, alloc: Global, calls: &[Asked]) -> Result<Closed, Fail> {
-    let config = small();
+/// What a table of this config holds at its closing, when its caller has made these calls. The table behind the
+/// first one has this shape then, which is 0 where there is none.
+fn closed_after(
+    rt: &impl Abort,
+    alloc: Global,
+    config: Config,
+    calls: &[Asked],
+    shape: u64,
+) -> Result<Closed, Fail> {
     assert!(rt; config.is_settled());
     assert!(rt; config.callers == 1);
     let mut state = State::<Low>::open(alloc, config)?;
@@ -31,12 +42,17 @@ fn closed_after(rt: &impl Abort, alloc: Global, calls: &[Asked]) -> Result<Close
     for asked in calls {
         reply_to(rt, &mut state, 0, *asked);
     }
-    closed_at(rt, &state)
+    closed_at(rt, &state, shape)
 }
 
-/// A table of 64 buckets was closed with these ports and their owners.
-fn assert_closed<'a>(rt: &impl Abort, closed: &Closed, keys: u32, want: &'a [(u64, &'a [u32])]) {
-    assert_same(rt, (closed.size, closed.keys), (64, keys));
+/// A table of so many buckets was closed with so many ports, which are these, with their owners.
+fn assert_closed<'a>(
+    rt: &impl Abort,
+    closed: &Closed,
+    (size, keys): (u32, u32),
+    want: &'a [(u64, &'a [u32])],
+) {
+    assert_same(rt, (closed.size, closed.keys), (size, keys));
     assert_same(rt, closed.bindings.len(), want.len());
     for i in 0..want.len() {
         let (port, owners) = want[i];
@@ -48,8 +64,8 @@ fn assert_closed<'a>(rt: &impl Abort, closed: &Closed, keys: u32, want: &'a [(u6
 
 #[test]
 fn a_closed_table_lists_what_is_bound(rt: HostRuntime) -> Result<(), Fail> {
-    let nothing = closed_after(&rt, rt.alloc(), &[])?;
-    assert_closed(&rt, &nothing, 0, &[]);
+    let nothing = closed_after(&rt, rt.alloc(), small(), &[], 0)?;
+    assert_closed(&rt, &nothing, (64, 0), &[]);
     // Ports 69 and 5 are in bucket 5, and so is 5 of net 3, port 1000 in bucket 40, and port 2 in bucket 2.
     // Net 3 is behind net 0, whatever the numbers.
     let calls = [
@@ -61,7 +77,7 @@ fn a_closed_table_lists_what_is_bound(rt: HostRuntime) -> Result<(), Fail> {
         FIND_5,
         bind(2, 1),
     ];
-    let closed = closed_after(&rt, rt.alloc(), &calls)?;
+    let closed = closed_after(&rt, rt.alloc(), small(), &calls, 0)?;
     let want: [(u64, &[u32]); 5] = [
         (2, &[1]),
         (5, &[9]),
@@ -69,7 +85,7 @@ fn a_closed_table_lists_what_is_bound(rt: HostRuntime) -> Result<(), Fail> {
         (1000, &[9]),
         (NET_3_PORT_5, &[8]),
     ];
-    assert_closed(&rt, &closed, 5, &want);
+    assert_closed(&rt, &closed, (64, 5), &want);
     Ok(())
 }
 
