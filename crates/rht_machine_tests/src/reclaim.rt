@@ -67,19 +67,6 @@ fn each_callers_section_word_is_kept_in_the_slot(rt: HostRuntime) -> Result<(), 
 }
 
 #[test]
-fn a_flat_tables_run_is_given_and_then_its_slot(rt: HostRuntime) -> Result<(), Fail> {
-    // 128 buckets in pages 2 and 3: 7 + 1024 * 2
-    let give = GiveTable::new(geometry(&rt), 1);
-    let steps = [
-        (Op::load(56), 2_055),
-        (Op::or(281, 12), 1),
-        (Op::store(60, 0), 2),
-    ];
-    assert_performs(&rt, give, &steps, ());
-    Ok(())
-}
-
-#[test]
 fn a_nested_tables_pages_go_before_its_top_page(rt: HostRuntime) -> Result<(), Fail> {
     // 128 buckets, two entries in use in page 0: 7 + 32 * 1. The second one leads to page 2.
     let give = GiveTable::new(geometry(&rt), 1);
@@ -93,33 +80,6 @@ fn a_nested_tables_pages_go_before_its_top_page(rt: HostRuntime) -> Result<(), F
         (Op::store(60, 0), 2),
     ];
     assert_performs(&rt, give, &steps, ());
-    Ok(())
-}
-
-#[test]
-fn a_page_of_entries_goes_behind_those_to_which_it_leads(rt: HostRuntime) -> Result<(), Fail> {
-    // 8,192 buckets, two entries in use in page 0: 13 + 32 * 1. The first one leads to page 1, at 378,
-    // and the first entry there to page 2.
-    let give = GiveTable::new(geometry(&rt), 1);
-    let first = [
-        (Op::load(56), 45),
-        (Op::load(314), 2),
-        (Op::load(378), 3),
-        (Op::store(378, 0), 3),
-        (Op::or(281, 4), 8),
-    ];
-    let mut others = [(Op::load(379), 0); 63];
-    for (other, place) in others.iter_mut().zip(379..442) {
-        *other = (Op::load(place), 0);
-    }
-    let last = [
-        (Op::store(314, 0), 2),
-        (Op::or(281, 2), 12),
-        (Op::load(315), 0),
-        (Op::or(281, 1), 14),
-        (Op::store(60, 0), 2),
-    ];
-    assert_parts(&rt, give, &[&first, &others, &last], ());
     Ok(())
 }
 
