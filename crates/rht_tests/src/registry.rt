@@ -15,9 +15,8 @@ use rht_run::Table;
 use rht_script::Script;
 use rht_words::{Config, Hash, Kind, Port};
 use std::alloc::{AllocError, Global};
-use std::hint::spin_loop;
 use std::process::Abort;
-use std::sync::atomic::{AtomicBool, AtomicU32, Ordering};
+use std::sync::atomic::{AtomicU32, Ordering};
 use std::test::Fail;
 
 const SMALL: Config = Config {
@@ -200,72 +199,5 @@ fn the_gate_hears_of_each_command(rt: HostRuntime) -> Result<(), Fail> {
     // Thirteen commands of worker 1, and the numbers from 1 to 13.
     assert_same(&rt, gate.before.load(Ordering::SeqCst), 1_391);
     assert_same(&rt, gate.after.load(Ordering::SeqCst), 1_391);
-    Ok(())
-}
-
-/// Two workers, each with one bind, of the port that has its number.
-fn pair_script<M: Mix>(alloc: Global, order: [u32; 2]) -> Result<Script, AllocError>
-    ensures { IfOk result (λ script. low_mix ≡ mix_named script.config) }
-{
-    let [first, second] = order;
-    let commands = [(first, bind(first, first)), (second, bind(second, second))];
-    Ok(Script {
-        config: Config {
-            callers: 2,
-            ..SMALL
-        },
-        auto: true,
-        form: 1,
-        commands: Vec::from_slice(alloc, &commands)?,
-        schedule: Vec::new(alloc),
-    })
-}
-
-/// How often a worker looks for the other one.
-const TURNS: u32 = 100_000_000;
-
-/// Where two workers meet. Each raises its flag, looks for the other's, and notes whether it saw it.
-#[derive(Drop)]
-struct Meeting {
-    raised: [AtomicBool; 2],
-    seen: [AtomicBool; 2],
-}
-
-impl Gate for Meeting {
-    fn before(&self, worker: u32, _index: u32) {
-        let (own, other) = if worker == 1 { (0, 1) } else { (1, 0) };
-        self.raised[own].store(true, Ordering::SeqCst);
-        for _ in 0..TURNS {
-            if self.raised[other].load(Ordering::SeqCst) {
-                self.seen[own].store(true, Ordering::SeqCst);
-                return;
-            }
-            spin_loop();
-        }
-    }
-
-    fn after(&self, _worker: u32, _index: u32) {}
-}
-
-#[test]
-fn two_workers_meet(rt: HostRuntime) -> Result<(), Fail> {
-    for order in [[1, 2], [2, 1]] {
-        let script = pair_script::<Low>(rt.alloc(), order)?;
-        assert!(rt; script.is_sound());
-        let gate = Meeting {
-            raised: [AtomicBool::new(false), AtomicBool::new(false)],
-            seen: [AtomicBool::new(false), AtomicBool::new(false)],
-        };
-        let outcome = run_workers::<Low, _, _>(&rt, rt.alloc(), &script, &gate)?;
-        assert!(rt; gate.seen[0].load(Ordering::SeqCst));
-        assert!(rt; gate.seen[1].load(Ordering::SeqCst));
-        let (replies, closed) = closed(rt.alloc(), &script, outcome)?;
-        assert!(rt; replies.len() == 2);
-        for own in replies.iter() {
-            assert!(rt; !own.is_empty());
-            assert_replies(&rt, own, &[Reply::Bound { kick: false }]);
-        }
-        assert_same(&rt, (closed.size, closed.keys), (64, 2));
-    }
     Ok(())
 }

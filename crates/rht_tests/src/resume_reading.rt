@@ -1,19 +1,13 @@
-//! What no clause says: that resume scripts are read at all, and where other bytes have their first fault; each
-//! worked out by hand from the rules of lines.
+//! What no clause says: that resume scripts are read at all, and answers kept. What is wanted was worked out by hand
+//! from the rules of lines.
 
+use crate::asserts::assert_same;
 use rht_model::{Call, Reply};
 use rht_resume::{Piece, ResumeCall, ResumeReplies, ResumeReply, read_resume};
-use rht_script::{ReadError, ScriptFault};
 use rht_words::Port;
 use std::alloc::Global;
-use std::fmt::Debug;
 use std::process::Abort;
 use std::test::Fail;
-
-/// Asserts that what was found is what is wanted.
-fn assert_same<T: Copy + Debug + PartialEq>(rt: &impl Abort, found: T, want: T) {
-    assert_eq!(rt; found, want);
-}
 
 /// Asserts that a line behind a table line of form 2 with two workers and 8 nodes is read as this command.
 fn assert_read(
@@ -56,45 +50,6 @@ fn commands_are_read(rt: HostRuntime) -> Result<(), Fail> {
     for (line, want) in cases {
         assert_read(&rt, rt.alloc(), line, want)?;
     }
-    Ok(())
-}
-
-/// The line of the bytes' first fault, and its cause.
-fn first_fault(alloc: Global, text: &str) -> Option<(u32, u8)> {
-    match read_resume(alloc, text.as_bytes()) {
-        Err(ReadError::Fault(ScriptFault { line, cause })) => Some((line, cause)),
-        _ => None,
-    }
-}
-
-#[test]
-fn other_bytes_have_a_first_fault(rt: HostRuntime) -> Result<(), Fail> {
-    // The text behind `table single nodes 8`, the line at fault, and its cause: 2, an unknown or missing word;
-    // 3, no number; 4, a number out of range.
-    let cases = [
-        ("1 next", 2, 2),
-        ("1 next 0", 2, 4),
-        ("1 next 9", 2, 4),
-        ("1 next x", 2, 3),
-        ("1 next 1 1", 2, 2),
-        ("2 next x", 2, 4),
-        ("x next 1", 2, 3),
-        ("next 1", 2, 3),
-        ("1 nexts 1", 2, 2),
-        ("1", 2, 2),
-        ("1 walk 1", 2, 2),
-        ("1 lease 80 7 1", 2, 2),
-        ("step 1 1", 2, 2),
-        ("skip next 1", 2, 2),
-        ("# a comment\n\n1 count\n1 next x", 5, 3),
-    ];
-    for (text, line, cause) in cases {
-        let script = format!(in rt.alloc(); "table single nodes 8\n{text}\n")?;
-        let found = first_fault(rt.alloc(), script.as_str());
-        assert_same(&rt, (text, found), (text, Some((line, cause))));
-    }
-    assert_same(&rt, first_fault(rt.alloc(), "1 next 1\n"), Some((1, 1)));
-    assert_same(&rt, first_fault(rt.alloc(), ""), Some((1, 1)));
     Ok(())
 }
 
