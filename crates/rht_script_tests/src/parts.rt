@@ -12,66 +12,14 @@ use rht_words::{Config, Kind, Port};
 use std::test::Fail;
 
 #[test]
-fn finds_ends_of_lines(rt: HostRuntime) {
-    // the text, a place, and where the line ends that begins there
-    let cases = [
-        ("", 0, 0),
-        ("\n", 0, 0),
-        ("\n", 1, 1),
-        ("ab\ncd", 0, 2),
-        ("ab\ncd", 2, 2),
-        ("ab\ncd", 3, 5),
-        ("ab\ncd\n", 4, 5),
-        ("ab\r\n", 1, 3),
-    ];
-    for (text, at, end) in cases {
-        let bytes = text.as_bytes();
-        let found = line_end(bytes, bytes.len().min(at));
-        assert_same(&rt, &found, &end, (text, at));
-    }
-}
-
-#[test]
-fn finds_words(rt: HostRuntime) {
-    // Two spaces, `ab` at 2, a tab, `c` at 5, and a space. A line feed is no blank.
-    let line = "  ab\tc ";
-    let cases = [
-        (line, 0, Some((2, 4))),
-        (line, 3, Some((3, 4))),
-        (line, 4, Some((5, 6))),
-        (line, 6, None),
-        (line, 7, None),
-        ("", 0, None),
-        ("#a", 0, Some((0, 2))),
-        ("a\nb", 0, Some((0, 3))),
-    ];
-    for (text, at, word) in cases {
-        let bytes = text.as_bytes();
-        let found = word_at(bytes, bytes.len().min(at));
-        assert_same(&rt, &found, &word, (text, at));
-    }
-}
-
-#[test]
-fn reads_numbers(rt: HostRuntime) {
-    // the word, the least and the greatest number, and what is read
-    let cases = [
-        ("0", 0, 0, Ok(0)),
-        ("00000000000000000007", 7, 7, Ok(7)),
-        ("000000000000000000007", 7, 7, Err(3)),
-        ("5", 6, 9, Err(4)),
-        ("10", 6, 9, Err(4)),
-        ("", 0, 9, Err(3)),
-        ("+1", 0, 9, Err(3)),
-        ("1x", 0, 0, Err(3)),
-        ("18446744073709551615", 0, u64::MAX, Ok(u64::MAX)),
-        ("18446744073709551616", 0, u64::MAX, Err(4)),
-        ("99999999999999999999", 0, u64::MAX, Err(4)),
-    ];
-    for (word, least, greatest, read) in cases {
-        let found = number_of(word.as_bytes(), least, greatest);
-        assert_same(&rt, &found, &read, word);
-    }
+fn finds_lines_and_words_and_reads_numbers(rt: HostRuntime) {
+    // the second line ends behind `cd`
+    assert_same(&rt, &line_end(b"ab\ncd\n", 3), &5, "the end of a line");
+    // two spaces, `ab`, a tab, and `c` at 5
+    let word = word_at(b"  ab\tc ", 4);
+    assert_same(&rt, &word, &Some((5, 6)), "a word");
+    let number = number_of(b"00000000000000000007", 7, 7);
+    assert_same(&rt, &number, &Ok(7), "a number of 20 digits");
 }
 
 #[test]
