@@ -1,6 +1,4 @@
--- which replies are right
-pub mod Right
--- what a pass has done
-pub mod Made
--- what each thread has to do, and what it has done
+-- passes that are ready for a call
+pub mod Ready
+-- jobs that are
 pub mod Jobs

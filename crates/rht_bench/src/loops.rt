@@ -1,12 +1,8 @@
 //! What is timed: the loops of one thread. Each goes once through the thread's ports, and answers
 //! how many calls had the reply that they must have.
 
-ghost use Rattle.std.specs.Prelude.{◌≡◌, ◌+◌, ◌*◌, ◌/◌, ◌^◌, ◌<◌, ◌≤◌, Bool, true};
-ghost use Rattle.rht_model.specs.declared.history.Reply.{Reply as ReplyOf};
-ghost use Rattle.rht_core.specs.Locals.{is_idle};
-ghost use Rattle.rht_run.specs.Passes.{IsPassOf};
-ghost use Rattle.rht_bench.specs.Right.{is_found, is_missing, is_bound, is_done, right_in, least_in, is_answer, IsOfLookups};
-ghost use Rattle.rht_bench.specs.Made.{HasMade, HasMadeSome};
+ghost use Rattle.std.specs.Prelude.{◌≡◌, ◌+◌, ◌*◌, ◌^◌, ◌<◌, ◌≤◌};
+ghost use Rattle.rht_bench.specs.Ready.{IsReady};
 
 use crate::clock::Span;
 use crate::rows::{Asked, Workload};
@@ -83,9 +79,7 @@ pub fn rounds<M: Mix, R: Wait + Clock>(
     times: u32,
     longest: &mut u64,
 ) -> u64
-    requires pass { IsPassOf M.mix_of table.now pass.old }
-    requires idle { is_idle pass.old.local ≡ true }
-    ensures made { HasMadeSome M.mix_of table.now (right_in workload) (times * least_in workload ports.count) result pass.old pass.new }
+    requires { IsReady M.mix_of table.now pass.old }
 {
     let mut right = 0u64;
     for _round in 0..times {
@@ -103,9 +97,8 @@ fn round<M: Mix, R: Wait + Clock>(
     ports: Ports,
     longest: &mut u64,
 ) -> u64
-    requires pass { IsPassOf M.mix_of table.now pass.old }
-    requires idle { is_idle pass.old.local ≡ true }
-    ensures made { HasMadeSome M.mix_of table.now (right_in workload) (least_in workload ports.count) result pass.old pass.new }
+    requires { IsReady M.mix_of table.now pass.old }
+    ensures ready { IsReady M.mix_of table.now pass.new }
     ensures few { result ≤ 2 * ports.count + 1 }
 {
     match workload {
@@ -130,11 +123,9 @@ fn round<M: Mix, R: Wait + Clock>(
 /// Looks up the ports, or their others. This is the one place of a loop that calls `find`, which is
 /// inlined where there is one alone.
 fn lookups<M: Mix>(table: &Table<M>, pass: &mut Pass<M>, ports: Ports, asked: Asked) -> u64
-    requires pass { IsPassOf M.mix_of table.now pass.old }
-    requires idle { is_idle pass.old.local ≡ true }
-    ensures made { HasMade M.mix_of table.now (is_answer asked) ports.count result pass.old pass.new }
-    ensures fitting { (is_right : ReplyOf → Bool) → IsOfLookups asked is_right
-        → HasMade M.mix_of table.now is_right ports.count result pass.old pass.new }
+    requires { IsReady M.mix_of table.now pass.old }
+    ensures ready { IsReady M.mix_of table.now pass.new }
+    ensures few { result ≤ ports.count }
 {
     let other = match asked {
         Asked::Own => 0,
@@ -156,9 +147,9 @@ fn timed<M: Mix, R: Clock>(
     ports: Ports,
     longest: &mut u64,
 ) -> u64
-    requires pass { IsPassOf M.mix_of table.now pass.old }
-    requires idle { is_idle pass.old.local ≡ true }
-    ensures made { HasMade M.mix_of table.now is_found ports.count result pass.old pass.new }
+    requires { IsReady M.mix_of table.now pass.old }
+    ensures ready { IsReady M.mix_of table.now pass.new }
+    ensures few { result ≤ ports.count }
 {
     let mut right = 0u64;
     for index in 0..ports.count {
@@ -181,9 +172,9 @@ fn nanos_since<R: Clock>(rt: &R, began: Option<Instant>) -> u64 {
 /// Of twenty calls, binds another port and releases it in two, and looks up bound ports in the rest;
 /// and looks up the ports that are left.
 fn mixed<M: Mix, R: Wait>(rt: &R, table: &Table<M>, pass: &mut Pass<M>, ports: Ports) -> u64
-    requires pass { IsPassOf M.mix_of table.now pass.old }
-    requires idle { is_idle pass.old.local ≡ true }
-    ensures made { HasMade M.mix_of table.now is_done ports.count result pass.old pass.new }
+    requires { IsReady M.mix_of table.now pass.old }
+    ensures ready { IsReady M.mix_of table.now pass.new }
+    ensures few { result ≤ ports.count }
 {
     let mut right = 0u64;
     for block in 0..ports.count / 20 {
@@ -202,10 +193,10 @@ fn twenty<M: Mix, R: Wait>(
     ports: Ports,
     block: u32,
 ) -> u64
-    requires pass { IsPassOf M.mix_of table.now pass.old }
-    requires idle { is_idle pass.old.local ≡ true }
+    requires ready { IsReady M.mix_of table.now pass.old }
     requires block { block * 20 + 20 ≤ ports.count }
-    ensures made { HasMade M.mix_of table.now is_done 20 result pass.old pass.new }
+    ensures ready { IsReady M.mix_of table.now pass.new }
+    ensures few { result ≤ 20 }
 {
     let other = ports.with(ports.first | OTHER);
     let bound = table.bind(rt, pass, other, OWNER);
@@ -216,9 +207,9 @@ fn twenty<M: Mix, R: Wait>(
 
 /// Binds a port and releases it again.
 fn churn<M: Mix, R: Wait>(rt: &R, table: &Table<M>, pass: &mut Pass<M>, ports: Ports) -> u64
-    requires pass { IsPassOf M.mix_of table.now pass.old }
-    requires idle { is_idle pass.old.local ≡ true }
-    ensures made { HasMade M.mix_of table.now is_done (2 * ports.count) result pass.old pass.new }
+    requires { IsReady M.mix_of table.now pass.old }
+    ensures ready { IsReady M.mix_of table.now pass.new }
+    ensures few { result ≤ 2 * ports.count }
 {
     let mut right = 0u64;
     for index in 0..ports.count {
@@ -232,9 +223,9 @@ fn churn<M: Mix, R: Wait>(rt: &R, table: &Table<M>, pass: &mut Pass<M>, ports: P
 
 /// Binds ports that aren't bound.
 pub fn binds<M: Mix, R: Wait>(rt: &R, table: &Table<M>, pass: &mut Pass<M>, ports: Ports) -> u64
-    requires pass { IsPassOf M.mix_of table.now pass.old }
-    requires idle { is_idle pass.old.local ≡ true }
-    ensures made { HasMade M.mix_of table.now is_bound ports.count result pass.old pass.new }
+    requires { IsReady M.mix_of table.now pass.old }
+    ensures ready { IsReady M.mix_of table.now pass.new }
+    ensures few { result ≤ ports.count }
 {
     let mut right = 0u64;
     for index in 0..ports.count {
@@ -247,9 +238,8 @@ pub fn binds<M: Mix, R: Wait>(rt: &R, table: &Table<M>, pass: &mut Pass<M>, port
 /// Binds ports in a table that has to grow. Of the calls only the binds that are done are counted:
 /// how many others it takes depends on the other threads.
 fn growth<M: Mix, R: Wait>(rt: &R, table: &Table<M>, pass: &mut Pass<M>, ports: Ports) -> u64
-    requires pass { IsPassOf M.mix_of table.now pass.old }
-    requires idle { is_idle pass.old.local ≡ true }
-    ensures made { HasMadeSome M.mix_of table.now is_bound ports.count result pass.old pass.new }
+    requires { IsReady M.mix_of table.now pass.old }
+    ensures ready { IsReady M.mix_of table.now pass.new }
     ensures few { result ≡ ports.count }
 {
     for index in 0..ports.count {
@@ -260,9 +250,9 @@ fn growth<M: Mix, R: Wait>(rt: &R, table: &Table<M>, pass: &mut Pass<M>, ports: 
 
 /// Walks the whole table.
 fn walked<M: Mix>(table: &Table<M>, pass: &mut Pass<M>) -> u64
-    requires pass { IsPassOf M.mix_of table.now pass.old }
-    requires idle { is_idle pass.old.local ≡ true }
-    ensures made { HasMade M.mix_of table.now is_done 1 result pass.old pass.new }
+    requires { IsReady M.mix_of table.now pass.old }
+    ensures ready { IsReady M.mix_of table.now pass.new }
+    ensures few { result ≤ 1 }
 {
     let reply = table.walk(pass, None, MOST);
     u64::from(is_done(reply))
@@ -270,9 +260,9 @@ fn walked<M: Mix>(table: &Table<M>, pass: &mut Pass<M>) -> u64
 
 /// Walks the whole table. Then it binds other ports and releases them, one for each twenty of its own.
 fn between<M: Mix, R: Wait>(rt: &R, table: &Table<M>, pass: &mut Pass<M>, ports: Ports) -> u64
-    requires pass { IsPassOf M.mix_of table.now pass.old }
-    requires idle { is_idle pass.old.local ≡ true }
-    ensures made { HasMade M.mix_of table.now is_done (1 + 2 * (ports.count / 20)) result pass.old pass.new }
+    requires { IsReady M.mix_of table.now pass.old }
+    ensures ready { IsReady M.mix_of table.now pass.new }
+    ensures few { result ≤ 2 * ports.count + 1 }
 {
     let shown = walked(table, pass);
     shown + churn(rt, table, pass, ports.part(0, ports.count / 20))
@@ -281,9 +271,8 @@ fn between<M: Mix, R: Wait>(rt: &R, table: &Table<M>, pass: &mut Pass<M>, ports:
 /// Binds a port, where it is refused again and again, and works on the table where the reply asks for
 /// that.
 fn bind_and_grow<M: Mix, R: Wait>(rt: &R, table: &Table<M>, pass: &mut Pass<M>, port: Port)
-    requires pass { IsPassOf M.mix_of table.now pass.old }
-    requires idle { is_idle pass.old.local ≡ true }
-    ensures made { HasMadeSome M.mix_of table.now is_bound 1 1 pass.old pass.new }
+    requires { IsReady M.mix_of table.now pass.old }
+    ensures { IsReady M.mix_of table.now pass.new }
 {
     for _ in rt.forever() {
         let reply = table.bind(rt, pass, port, OWNER);
@@ -298,9 +287,8 @@ fn bind_and_grow<M: Mix, R: Wait>(rt: &R, table: &Table<M>, pass: &mut Pass<M>, 
 
 /// Works on the table where the reply of a bind says that there is something to do.
 fn grow_if_told<M: Mix, R: Wait>(rt: &R, table: &Table<M>, pass: &mut Pass<M>, reply: Reply)
-    requires pass { IsPassOf M.mix_of table.now pass.old }
-    requires idle { is_idle pass.old.local ≡ true }
-    ensures made { HasMadeSome M.mix_of table.now is_bound 0 0 pass.old pass.new }
+    requires { IsReady M.mix_of table.now pass.old }
+    ensures { IsReady M.mix_of table.now pass.new }
 {
     if let Reply::Bound { kick: true } = reply {
         grow(rt, table, pass);
@@ -310,9 +298,8 @@ fn grow_if_told<M: Mix, R: Wait>(rt: &R, table: &Table<M>, pass: &mut Pass<M>, r
 
 /// Works on the table until there is no more to do, or another thread is at it. No such call binds.
 fn grow<M: Mix, R: Wait>(rt: &R, table: &Table<M>, pass: &mut Pass<M>)
-    requires pass { IsPassOf M.mix_of table.now pass.old }
-    requires idle { is_idle pass.old.local ≡ true }
-    ensures made { HasMadeSome M.mix_of table.now is_bound 1 0 pass.old pass.new }
+    requires { IsReady M.mix_of table.now pass.old }
+    ensures { IsReady M.mix_of table.now pass.new }
 {
     for _ in rt.forever() {
         if table.work(rt, pass) != (Reply::Moved { again: true }) {
@@ -324,9 +311,7 @@ fn grow<M: Mix, R: Wait>(rt: &R, table: &Table<M>, pass: &mut Pass<M>)
 
 /// Whether a look-up of these ports has the reply that it must have.
 #[inline(always)]
-fn is_answer(asked: Asked, reply: Reply) -> bool
-    ensures { result ≡ is_answer asked reply }
-{
+fn is_answer(asked: Asked, reply: Reply) -> bool {
     match asked {
         Asked::Own => is_found(reply),
         Asked::Others => is_missing(reply),
@@ -335,9 +320,7 @@ fn is_answer(asked: Asked, reply: Reply) -> bool
 
 /// Whether the port was found bound to its owner.
 #[inline(always)]
-fn is_found(reply: Reply) -> bool
-    ensures { result ≡ is_found reply }
-{
+fn is_found(reply: Reply) -> bool {
     match reply {
         Reply::Found { owner } => owner == OWNER,
         _ => false,
@@ -346,25 +329,19 @@ fn is_found(reply: Reply) -> bool
 
 /// Whether the port wasn't bound.
 #[inline(always)]
-fn is_missing(reply: Reply) -> bool
-    ensures { result ≡ is_missing reply }
-{
+fn is_missing(reply: Reply) -> bool {
     matches!(reply, Reply::Missing)
 }
 
 /// Whether the port was bound by this call.
 #[inline(always)]
-fn is_bound(reply: Reply) -> bool
-    ensures { result ≡ is_bound reply }
-{
+fn is_bound(reply: Reply) -> bool {
     matches!(reply, Reply::Bound { .. })
 }
 
 /// Whether the call has found, bound or released what it was asked to, or has walked to the table's end.
 #[inline(always)]
-fn is_done(reply: Reply) -> bool
-    ensures { result ≡ is_done reply }
-{
+fn is_done(reply: Reply) -> bool {
     match reply {
         Reply::Found { owner } => owner == OWNER,
         Reply::Bound { .. } | Reply::Released { .. } | Reply::Walked { next: None, .. } => true,

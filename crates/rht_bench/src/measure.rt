@@ -2,11 +2,9 @@
 //! all threads have come to a gate, and when it has done its calls. Beside them one thread more may resize
 //! the table.
 
-ghost use Rattle.std.specs.Prelude.{◌≡◌, ◌*◌, true, All, IfOk, IfSome, vec_len};
-ghost use Rattle.rht_core.specs.Locals.{is_idle};
-ghost use Rattle.rht_run.specs.Passes.{IsPassOf, AreNew};
-ghost use Rattle.rht_bench.specs.Made.{IsReady};
-ghost use Rattle.rht_bench.specs.Jobs.{IsReadyJob, HasWorked, HasResized, AllHaveWorked};
+ghost use Rattle.std.specs.Prelude.{All, IfOk, IfSome};
+ghost use Rattle.rht_bench.specs.Ready.{IsReady};
+ghost use Rattle.rht_bench.specs.Jobs.{IsReadyJob};
 
 use crate::clock::Span;
 use crate::gate::Gate;
@@ -123,9 +121,9 @@ fn measure_once<M: Mix + Send + Sync, R: Threads + Wait + Sync + Clock>(
 /// What the thread has to do that resizes the table, where the row has one. It has the last pass, and twice
 /// as many ports as are bound: so many that the table grows, wherever its size was.
 fn resizer<M: Mix>(table: &Table<M>, passes: &mut Vec<Pass<M>>, row: Row) -> Option<Job<M>>
-    requires { AreNew M.mix_of table.now 0 passes.old.items }
-    ensures passes { AreNew M.mix_of table.now 0 passes.new.items }
-    ensures ready { IfSome result (IsReadyJob M.mix_of table.now) }
+    requires { All (IsReady M.mix_of table.now) passes.old.items }
+    ensures passes { All (IsReady M.mix_of table.now) passes.new.items }
+    ensures job { IfSome result (IsReadyJob M.mix_of table.now) }
 {
     if !row.workload.is_resized() {
         return None;
@@ -148,7 +146,7 @@ fn share_out<M: Mix, R: Wait>(
     mut passes: Vec<Pass<M>>,
     row: Row,
 ) -> Result<Vec<Job<M>>, AllocError>
-    requires { AreNew M.mix_of table.now 0 passes.items }
+    requires { All (IsReady M.mix_of table.now) passes.items }
     ensures { IfOk result (λ jobs. All (IsReadyJob M.mix_of table.now) jobs.items) }
 {
     let common = row.workload.has_common_ports();
@@ -198,8 +196,6 @@ fn work_all<M: Mix + Send + Sync, R: Threads + Wait + Sync + Clock>(
 ) -> Result<(Vec<Worked<M>>, u64), AllocError>
     requires jobs { All (IsReadyJob M.mix_of table.now) jobs.items }
     requires beside { IfSome beside (IsReadyJob M.mix_of table.now) }
-    ensures each { IfOk result (λ r. AllHaveWorked M.mix_of table.now row.workload row.rounds jobs.items r.0.items) }
-    ensures beside { IfOk result (λ r. IfSome beside (HasResized M.mix_of table.now r.1)) }
 {
     let Some(resizer) = beside else {
         return Ok((work_jobs(rt, table, gate, jobs, row)?, 0));
@@ -208,11 +204,9 @@ fn work_all<M: Mix + Send + Sync, R: Threads + Wait + Sync + Clock>(
         rt,
         move || -> u64
             requires { IsReadyJob M.mix_of table.now resizer }
-            ensures { HasResized M.mix_of table.entry.now result resizer }
         { resize_beside(rt, table, gate, resizer, row.threads) },
         move || -> Result<Vec<Worked<M>>, AllocError>
             requires { All (IsReadyJob M.mix_of table.now) jobs.items }
-            ensures { IfOk result (λ worked. AllHaveWorked M.mix_of table.entry.now row.workload row.rounds jobs.items worked.items) }
         { work_jobs(rt, table, gate, jobs, row) },
     );
     Ok((worked?, moved))
@@ -228,7 +222,6 @@ fn resize_beside<M: Mix, R: Wait>(
     others: u32,
 ) -> u64
     requires { IsReadyJob M.mix_of table.now job }
-    ensures { HasResized M.mix_of table.now result job }
 {
     let Job { mut pass, ports } = job;
     gate.pass();
@@ -244,15 +237,12 @@ fn work_jobs<M: Mix + Send + Sync, R: Threads + Wait + Sync + Clock>(
     row: Row,
 ) -> Result<Vec<Worked<M>>, AllocError>
     requires { All (IsReadyJob M.mix_of table.now) jobs.items }
-    ensures len { IfOk result (λ worked. vec_len worked ≡ vec_len jobs) }
-    ensures each { IfOk result (λ worked. AllHaveWorked M.mix_of table.now row.workload row.rounds jobs.items worked.items) }
 {
     thread::map_vec(
         rt,
         jobs,
         &|job| -> Worked<M>
             requires { IsReadyJob M.mix_of table.now job }
-            ensures { HasWorked M.mix_of table.entry.now row.workload row.rounds job result }
         { work(rt, table, gate, job, row) },
     )
 }
@@ -266,7 +256,6 @@ fn work<M: Mix, R: Wait + Clock>(
     row: Row,
 ) -> Worked<M>
     requires { IsReadyJob M.mix_of table.now job }
-    ensures { HasWorked M.mix_of table.now row.workload row.rounds job result }
 {
     let Job { mut pass, ports } = job;
     let mut longest = 0u64;

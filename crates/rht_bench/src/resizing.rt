@@ -1,11 +1,8 @@
 //! What the thread does that resizes a table while others look up. It binds ports of its own until a reply
 //! asks for work, works, releases them until a reply asks for work, and works again.
 
-ghost use Rattle.std.specs.Prelude.{◌≡◌, ◌≤◌, true};
-ghost use Rattle.rht_core.specs.Locals.{is_idle};
-ghost use Rattle.rht_run.specs.Passes.{IsPassOf};
-ghost use Rattle.rht_bench.specs.Right.{is_moved};
-ghost use Rattle.rht_bench.specs.Made.{HasMadeSome};
+ghost use Rattle.std.specs.Prelude.{◌≤◌};
+ghost use Rattle.rht_bench.specs.Ready.{IsReady};
 
 use crate::gate::Gate;
 use crate::loops::{OWNER, Ports};
@@ -33,9 +30,7 @@ pub fn resize<M: Mix, R: Wait>(
     gate: &Gate,
     others: u32,
 ) -> u64
-    requires pass { IsPassOf M.mix_of table.now pass.old }
-    requires idle { is_idle pass.old.local ≡ true }
-    ensures made { HasMadeSome M.mix_of table.now is_moved 0 result pass.old pass.new }
+    requires { IsReady M.mix_of table.now pass.old }
 {
     let mut bound = 0u32;
     let mut moved = 0u64;
@@ -61,10 +56,9 @@ fn bind_on<M: Mix, R: Wait>(
     ports: Ports,
     bound: u32,
 ) -> u32
-    requires pass { IsPassOf M.mix_of table.now pass.old }
-    requires idle { is_idle pass.old.local ≡ true }
+    requires ready { IsReady M.mix_of table.now pass.old }
     requires bound { bound ≤ ports.count }
-    ensures made { HasMadeSome M.mix_of table.now is_moved 0 0 pass.old pass.new }
+    ensures ready { IsReady M.mix_of table.now pass.new }
     ensures bound { result ≤ ports.count }
 {
     for index in bound..ports.count {
@@ -85,10 +79,9 @@ fn release_on<M: Mix, R: Wait>(
     ports: Ports,
     bound: u32,
 ) -> u32
-    requires pass { IsPassOf M.mix_of table.now pass.old }
-    requires idle { is_idle pass.old.local ≡ true }
+    requires ready { IsReady M.mix_of table.now pass.old }
     requires bound { bound ≤ ports.count }
-    ensures made { HasMadeSome M.mix_of table.now is_moved 0 0 pass.old pass.new }
+    ensures ready { IsReady M.mix_of table.now pass.new }
     ensures bound { result ≤ ports.count }
 {
     for index in (0..bound).rev() {
@@ -102,9 +95,8 @@ fn release_on<M: Mix, R: Wait>(
 
 /// Works until there is no more to do, and answers how many works have made another table the current one.
 fn work_on<M: Mix, R: Wait>(rt: &R, table: &Table<M>, pass: &mut Pass<M>) -> u64
-    requires pass { IsPassOf M.mix_of table.now pass.old }
-    requires idle { is_idle pass.old.local ≡ true }
-    ensures made { HasMadeSome M.mix_of table.now is_moved 0 result pass.old pass.new }
+    requires { IsReady M.mix_of table.now pass.old }
+    ensures ready { IsReady M.mix_of table.now pass.new }
     ensures few { result ≤ 64 }
 {
     let mut moved = 0u64;
@@ -119,8 +111,6 @@ fn work_on<M: Mix, R: Wait>(rt: &R, table: &Table<M>, pass: &mut Pass<M>) -> u64
 }
 
 /// Whether the work has made another table the current one, or has stopped before a nested one.
-fn is_moved(reply: Reply) -> bool
-    ensures { result ≡ is_moved reply }
-{
+fn is_moved(reply: Reply) -> bool {
     matches!(reply, Reply::Moved { .. })
 }

@@ -1,9 +1,6 @@
-use Rattle.rht_bench.specs.Right.{is_bound}
-use Rattle.rht_bench.specs.Made.{HasMadeSome}
+use Rattle.rht_bench.specs.Ready.{IsReady}
 use Rattle.rht_bench.proofs.loops.bind_and_grow.Given as goal
 
--- no call so far has bound a port
+-- the pass is in no call
 abbrev pub invariant-loop : goal.invariant-loop
-invariant-loop g l =
-    (goal.iterator-loop g).can_next l.iterator' × (goal.iterator-loop g).is_finite l.iterator'
-    × HasMadeSome g.M.Mix.mix_of l.table is_bound 0 0 l.fn.pass l.pass
+invariant-loop g l = (goal.iterator-loop g).can_next l.iterator' × (goal.iterator-loop g).is_finite l.iterator' × IsReady g.M.Mix.mix_of l.table l.pass

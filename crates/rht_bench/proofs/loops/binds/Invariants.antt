@@ -1,7 +1,7 @@
-use Rattle.rht_bench.specs.Right.{is_bound}
-use Rattle.rht_bench.specs.Made.{HasMade}
+use Rattle.std.proofs.Common.{◌≤◌}
+use Rattle.rht_bench.specs.Ready.{IsReady}
 use Rattle.rht_bench.proofs.loops.binds.Given as goal
 
--- a call was made for each port so far
+-- no more than one call for each port so far was right
 abbrev pub invariant-loop-index : goal.invariant-loop-index
-invariant-loop-index g l = HasMade g.M.Mix.mix_of l.table is_bound l.index l.right l.fn.pass l.pass
+invariant-loop-index g l = IsReady g.M.Mix.mix_of l.table l.pass × (l.right ≤ l.index)

@@ -1,18 +1,14 @@
 use Rattle.std.proofs.Common.{[], ◌∷◌, ◌++◌}
 use Rattle.std.specs.Prelude.{Some}
 use Rattle.std.proofs.lemmas.List.Elements.{All-nil, All-same, All-pop, All-push}
-use Rattle.rht_bench.specs.Made.{IsReady}
+use Rattle.rht_bench.specs.Ready.{IsReady}
 use Rattle.rht_bench.specs.Jobs.{IsReadyJob}
-use Rattle.rht_bench.proofs.ReadyPasses.{AreNew-IsReady}
 use Rattle.rht_bench.proofs.measure.share_out.Goals as goal
 
 pub loop-pass-init : goal.loop-pass-init
 loop-pass-init g c =
-    let mix = g.M.Mix.mix_of in
-    let t = c.args.table.now in (
-      AreNew-IsReady mix t 0 c.args.passes.items c.requires,
-      All-same (IsReadyJob mix t) c.new-jobs.result.items [] c.new-jobs.ensures.items (All-nil (IsReadyJob mix t)),
-    )
+    let ready = IsReadyJob g.M.Mix.mix_of c.args.table.now in
+    (c.requires, All-same ready c.new-jobs.result.items [] c.new-jobs.ensures.items (All-nil ready))
 
 pub prepared-requires : goal.prepared-requires
 prepared-requires g c =

@@ -1,5 +1,5 @@
 use Rattle.std.proofs.Common.{All, vec_len}
-use Rattle.rht_bench.specs.Made.{IsReady}
+use Rattle.rht_bench.specs.Ready.{IsReady}
 use Rattle.rht_bench.specs.Jobs.{IsReadyJob}
 use Rattle.rht_bench.proofs.measure.share_out.Given as goal
 

@@ -1,7 +1,6 @@
-use Rattle.rht_bench.specs.Right.{is_moved}
-use Rattle.rht_bench.specs.Made.{HasMadeSome}
+use Rattle.rht_bench.specs.Ready.{IsReady}
 use Rattle.rht_bench.proofs.resizing.bind_on.Given as goal
 
--- no call so far has made another table the current one
+-- the pass is in no call
 abbrev pub invariant-loop-index : goal.invariant-loop-index
-invariant-loop-index g l = HasMadeSome g.M.Mix.mix_of l.table is_moved 0 0 l.fn.pass l.pass
+invariant-loop-index g l = IsReady g.M.Mix.mix_of l.table l.pass
