@@ -5,7 +5,7 @@ ghost use Rattle.std.specs.Prelude.{◌≡◌, true, false};
 ghost use Rattle.rht_model.specs.declared.history.Call.TheVariants.{Bind, Release, Rebind, All, Work};
 ghost use Rattle.rht_session.specs.Plain.{port_said};
 ghost use Rattle.rht_session.specs.Handles.{IsFitHandle};
-ghost use Rattle.rht_c.specs.Exports.{HasBegun, HasGoneOn};
+ghost use Rattle.rht_c.specs.Exports.{HasBegun, HasSetOut, HasGoneOn};
 
 use rht_model::Call;
 use rht_session::{CPort, CReply, Handle, told};
@@ -50,6 +50,50 @@ pub extern "C" fn rht_bind_once_begin(
     told(handle.begin(call), reply)
 }
 
+/// Binds a port in one go, as `Table::bind` does, with so many rounds at most at the lock of a bucket.
+#[unsafe(no_mangle)]
+pub extern "C" fn rht_bind_in(
+    handle: &mut Handle,
+    port: CPort,
+    owner: u32,
+    rounds: u32,
+    reply: &mut CReply,
+) -> u32
+    requires { IsFitHandle handle.old }
+    ensures fit { IsFitHandle handle.new }
+    ensures set_out { HasSetOut (Bind (port_said port) owner false) handle.old reply.old result reply.new handle.new }
+{
+    let once = false;
+    let call = Call::Bind {
+        port: port.port(),
+        owner,
+        once,
+    };
+    told(handle.set_out(call, rounds), reply)
+}
+
+/// Binds a port once in one go, as `Table::bind_once` does, with so many rounds at most at the lock of a bucket.
+#[unsafe(no_mangle)]
+pub extern "C" fn rht_bind_once_in(
+    handle: &mut Handle,
+    port: CPort,
+    owner: u32,
+    rounds: u32,
+    reply: &mut CReply,
+) -> u32
+    requires { IsFitHandle handle.old }
+    ensures fit { IsFitHandle handle.new }
+    ensures set_out { HasSetOut (Bind (port_said port) owner true) handle.old reply.old result reply.new handle.new }
+{
+    let once = true;
+    let call = Call::Bind {
+        port: port.port(),
+        owner,
+        once,
+    };
+    told(handle.set_out(call, rounds), reply)
+}
+
 /// Begins to take a binding out, as `Table::release` does.
 #[unsafe(no_mangle)]
 pub extern "C" fn rht_release_begin(
@@ -64,6 +108,23 @@ pub extern "C" fn rht_release_begin(
 {
     let port = port.port();
     told(handle.begin(Call::Release { port, owner }), reply)
+}
+
+/// Takes a binding out in one go, as `Table::release` does, with so many rounds at most at the lock of a bucket.
+#[unsafe(no_mangle)]
+pub extern "C" fn rht_release_in(
+    handle: &mut Handle,
+    port: CPort,
+    owner: u32,
+    rounds: u32,
+    reply: &mut CReply,
+) -> u32
+    requires { IsFitHandle handle.old }
+    ensures fit { IsFitHandle handle.new }
+    ensures set_out { HasSetOut (Release (port_said port) owner) handle.old reply.old result reply.new handle.new }
+{
+    let port = port.port();
+    told(handle.set_out(Call::Release { port, owner }, rounds), reply)
 }
 
 /// Begins to put a new owner in the place of this one, as `Table::rebind` does.

@@ -1,6 +1,7 @@
 -- A caller: what it is doing, the operation that it plans, what it becomes with the word's old value, and its rooms for lists.
-use Rattle.std.specs.Prelude.{◌≡◌, ℕ, Bool, true, false, Option, Some, None, []}
+use Rattle.std.specs.Prelude.{◌≡◌, ◌==◌, ◌&&◌, nat_le, nat_lt, if◌then◌else◌, ℕ, Bool, true, false, Option, Some, None, option_map, []}
 use Rattle.rht_words.specs.declared.op.Op.{Op}
+use Rattle.rht_words.specs.declared.op.Op.TheVariants.{Load, Add}
 use Rattle.rht_words.specs.declared.machine.Next.{Next}
 use Rattle.rht_words.specs.declared.machine.Next.TheVariants.{Go, Done}
 use Rattle.rht_words.specs.declared.env.Env.{Env}
@@ -10,10 +11,10 @@ use Rattle.rht_model.specs.declared.history.Reply.{Reply}
 use Rattle.rht_model.specs.Rooms.{Kept, emptied, no_room}
 use Rattle.rht_model.specs.Endings.{Ending}
 use Rattle.rht_find.specs.Find.{find_new, find_plan, find_after}
-use Rattle.rht_bind.specs.Bind.{bind_new, bind_plan, bind_after}
+use Rattle.rht_bind.specs.Bind.{bind_from, bind_plan, bind_after}
 use Rattle.rht_release.specs.All.{AllModel, all_new, all_plan, all_after}
 use Rattle.rht_release.specs.Release.{release_new, release_plan, release_after}
-use Rattle.rht_release.specs.Rebind.{rebind_new, rebind_plan, rebind_after}
+use Rattle.rht_release.specs.Rebind.{rebind_from, rebind_plan, rebind_after}
 use Rattle.rht_move.specs.Work.{work_new, work_plan, work_after}
 use Rattle.rht_grace.specs.Batch.{BatchModel, batch_new}
 use Rattle.rht_grace.specs.Tidy.{tidy_new, tidy_plan, tidy_after}
@@ -64,17 +65,22 @@ module _ {M : Type 0} where
   tidying_of env None = None
   tidying_of env (Some batch) = Some (Tidying (tidy_new env.geometry batch))
 
-  -- what a caller does that has this batch and is given a call; none for a tidying without one
+  -- what a caller does that has this batch and is given a call, and the word of the node map from which on it is to look for a free
+  -- node; none for a tidying without a batch
+  abbrev pub machine_from : Env → ℕ → Option BatchModel → Call → ℕ → Option (Doing M)
+  machine_from env caller batch (Find port) start = Some (Finding (find_new env caller port))
+  machine_from env caller batch (Bind port owner once) start = Some (Binding (bind_from env caller port owner once start))
+  machine_from env caller batch (All port) start = Some (Listing (all_new env caller port (room_for_nodes env)))
+  machine_from env caller batch (Release port owner) start = Some (Releasing (release_new env caller port owner))
+  machine_from env caller batch (Rebind port owner new) start = Some (Rebinding (rebind_from env caller port owner new start))
+  machine_from env caller batch Work start = Some (Working (work_new env caller))
+  machine_from env caller batch Tidy start = tidying_of env batch
+  machine_from env caller batch (Walk from limit) start = Some (Walking (walk_new env caller from limit (room_for_nodes env)))
+  machine_from env caller batch Count start = Some (Counting (record { env = env }))
+
+  -- the same from the first word on
   abbrev pub machine_of : Env → ℕ → Option BatchModel → Call → Option (Doing M)
-  machine_of env caller batch (Find port) = Some (Finding (find_new env caller port))
-  machine_of env caller batch (Bind port owner once) = Some (Binding (bind_new env caller port owner once))
-  machine_of env caller batch (All port) = Some (Listing (all_new env caller port (room_for_nodes env)))
-  machine_of env caller batch (Release port owner) = Some (Releasing (release_new env caller port owner))
-  machine_of env caller batch (Rebind port owner new) = Some (Rebinding (rebind_new env caller port owner new))
-  machine_of env caller batch Work = Some (Working (work_new env caller))
-  machine_of env caller batch Tidy = tidying_of env batch
-  machine_of env caller batch (Walk from limit) = Some (Walking (walk_new env caller from limit (room_for_nodes env)))
-  machine_of env caller batch Count = Some (Counting (record { env = env }))
+  machine_of env caller batch call = machine_from env caller batch call 0
 
   -- the operation that it performs next
   abbrev pub doing_plan : Doing M → Option Op
@@ -204,6 +210,25 @@ module _ {M : Type 0} where
   pairs_after (Tidying m) room old = room
   pairs_after (Walking m) room old = pairs_given (walk_after m old) room
 
+-- ---- operations in a hold
+
+-- the operation adds 1 to a section word
+abbrev pub turns_section : ℕ → ℕ → Bool
+turns_section place by = nat_le 8 place && nat_lt place 24 && by == 1
+
+-- what an operation is that a machine plans: while its caller holds a section open, one that would turn the section loads its word
+abbrev pub soft : Bool → Op → Op
+soft over (Add place by) = if turns_section place by && over then Load place else Add place by
+soft over op = op
+
+-- the call may be made so: while its caller holds a section open it looks a port up, walks, or reads the count
+abbrev pub may_hold : Bool → Call → Bool
+may_hold false call = true
+may_hold true (Find port) = true
+may_hold true (Walk from limit) = true
+may_hold true Count = true
+may_hold true _ = false
+
 -- ---- a caller with its rooms
 
 module _ {M : Type 0} where
@@ -214,11 +239,16 @@ module _ {M : Type 0} where
     owners = room_for_nodes env;
     pairs = room_for_nodes env;
     batch = Some (batch_new env.geometry);
+    held = false;
   }
 
   -- it is in no call
   abbrev pub is_idle : Local M → Bool
   is_idle local = does_nothing local.doing
+
+  -- it may be given this call
+  abbrev pub may_begin : Local M → Call → Bool
+  may_begin local call = is_idle local && may_hold local.held call
 
   -- it begins with this: both rooms are emptied, a listing has the room of owners, a walk that of pairs, and a tidying the batch
   abbrev pub begin_with : Local M → Doing M → Local M
@@ -227,6 +257,7 @@ module _ {M : Type 0} where
     owners = owners_beside doing local.owners;
     pairs = pairs_beside doing local.pairs;
     batch = batch_beside doing local.batch;
+    held = local.held;
   }
 
   -- it begins with this, where there is a machine for its call
@@ -234,9 +265,9 @@ module _ {M : Type 0} where
   begun_with local None = local
   begun_with local (Some doing) = begin_with local doing
 
-  -- the operation that it performs next
+  -- the operation that it performs next: its machine's, but that it opens and closes no section while it holds one open
   abbrev pub plan_of : Local M → Option Op
-  plan_of local = doing_plan local.doing
+  plan_of local = option_map (soft local.held) (doing_plan local.doing)
 
   -- what becomes of it after its operation found this value, and the reply where the call has ended
   abbrev pub local_after : (ℕ → ℕ → ℕ → ℕ) → Local M → ℕ → Local M × Option Reply

@@ -1,5 +1,5 @@
 -- A call that is driven from outside its pass: the seat's view has what the caller does, and no machine of the call is kept.
-use Rattle.std.specs.Prelude.{◌≡◌, ℕ, ◌+◌, Bool, true, Option, Some, None, List, [], ◌∷◌, ◌++◌}
+use Rattle.std.specs.Prelude.{◌≡◌, ℕ, ◌+◌, Bool, true, false, Option, Some, None, Result, Ok, Err, List, [], ◌∷◌, ◌++◌}
 use Rattle.atomic_table.specs.declared.shared.Seat.{Seat}
 use Rattle.rht_words.specs.declared.machine.Next.{Next}
 use Rattle.rht_words.specs.declared.machine.Next.TheVariants.{Go, Done}
@@ -31,7 +31,8 @@ use Rattle.rht_run.specs.declared.table.Table.{Table}
 use Rattle.rht_run.specs.declared.pass.Pass.{Pass}
 use Rattle.rht_run.specs.Passes.{IsPassOf, book_in}
 
--- what stays as it is while a call is driven: the caller, the call, the calls before it, the caller's rooms, which are empty, and its batch
+-- what stays as it is while a call is driven: the caller, the call, the calls before it, the caller's rooms, which are empty, its batch, and
+-- whether it holds its section open
 pub record Riding : Type 0 where
   pub number : ℕ
   pub call : Call
@@ -39,10 +40,11 @@ pub record Riding : Type 0 where
   pub owners : Kept ℕ
   pub pairs : Kept (ℕ × ℕ)
   pub batch : Option BatchModel
+  pub over : Bool
 
 -- a call that is never driven
 abbrev pub any_riding : Riding
-any_riding = record { number = 0; call = Count; finished = []; owners = no_room; pairs = no_room; batch = None }
+any_riding = record { number = 0; call = Count; finished = []; owners = no_room; pairs = no_room; batch = None; over = false }
 
 -- a batch behind a call that took this node out, or none
 abbrev pub batch_with : Option BatchModel → Option ℕ → Option BatchModel
@@ -66,6 +68,10 @@ module _ {M : Type 0} where
   batch_in [] = None
   batch_in (held ∷ rest) = held.local.batch
 
+  abbrev pub over_in : List (Held M) → Bool
+  over_in [] = false
+  over_in (held ∷ rest) = held.local.held
+
   -- how many operations the seat's only caller has made in its call
   abbrev pub steps_in : Seat (Unit {0}) (SeatView M) → ℕ
   steps_in seat = (book_in seat.me.0.held).steps
@@ -79,11 +85,12 @@ module _ {M : Type 0} where
     owners = emptied (owners_in seat.me.0.held);
     pairs = emptied (pairs_in seat.me.0.held);
     batch = batch_in seat.me.0.held;
+    over = over_in seat.me.0.held;
   }
 
   -- the caller, which does this
   abbrev pub riding_local : Riding → Doing M → Local M
-  riding_local r doing = record { doing = doing; owners = r.owners; pairs = r.pairs; batch = r.batch }
+  riding_local r doing = record { doing = doing; owners = r.owners; pairs = r.pairs; batch = r.batch; held = r.over }
 
   -- and a pass that has it
   abbrev pub riding_pass : Riding → Doing M → Seat (Unit {0}) (SeatView M) → Pass M
@@ -98,6 +105,7 @@ pub record IsBefore {M : Type 0} (mix : ℕ → ℕ → ℕ → ℕ) (t : Table 
   pub owners : emptied local.owners ≡ r.owners
   pub pairs : emptied local.pairs ≡ r.pairs
   pub batch : local.batch ≡ r.batch
+  pub over : local.held ≡ r.over
   pub finished : (book_in seat.me.0.held).finished ≡ r.finished
 
 -- the caller of the seat is in the call, and does this
@@ -143,11 +151,6 @@ abbrev pub released : Option Bool → Reply
 released None = Absent
 released (Some kick) = Released kick
 
--- and what it has come to, in its reply; any other reply counts as `Absent`
-abbrev pub kick_in : Reply → Option Bool
-kick_in (Released kick) = Some kick
-kick_in _ = None
-
 -- after an operation: what the caller does, and where the call has ended, its reply and the node that it took out
 abbrev pub Stepped : {M : Type 0} → (ℕ → ℕ → ℕ → ℕ) → Table M → Riding → Doing M × Option (Reply × Option ℕ)
     → Seat (Unit {0}) (SeatView M) → Type 0
@@ -164,6 +167,12 @@ abbrev pub piece_next : {M P A : Type 0} → (P → Doing M) → (A → Doing M 
     → Doing M × Option (Reply × Option ℕ)
 piece_next holding behind (piece, Go) = (holding piece, None)
 piece_next holding behind (piece, Done answer) = behind answer
+
+-- a piece that is driven in straight code comes to its answer, or is left where it stands
+abbrev pub come_to : {M P A : Type 0} → (P → Doing M) → (A → Doing M × Option (Reply × Option ℕ)) → Result A P
+    → Doing M × Option (Reply × Option ℕ)
+come_to holding behind (Ok answer) = behind answer
+come_to holding behind (Err piece) = (holding piece, None)
 
 module _ {M : Type 0} where
   -- behind its end a call's caller is in none; most calls end with a reply alone

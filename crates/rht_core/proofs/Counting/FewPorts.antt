@@ -46,7 +46,7 @@ use Rattle.rht_core.proofs.Events.Invariants.{step_of}
 use Rattle.rht_core.proofs.Events.InvariantRuns.{has_inv}
 use Rattle.rht_core.proofs.Events.JobsOfCallers.{first_tidy-so, each_goes, same_call, first-of}
 use Rattle.rht_core.proofs.Events.Worlds.{induct_by_last, take-push, take-push_all, run_of-push, step_none, step_words}
-use Rattle.rht_core.proofs.Tracing.TracedJobs.{Performs, LeadsOn, IsKeeping, IsAtJob, jobs_keep_own}
+use Rattle.rht_core.proofs.Tracing.TracedJobs.{found_as, Performs, LeadsOn, IsKeeping, IsAtJob, jobs_keep_own}
 use Rattle.rht_core.proofs.Tracing.TracedRuns.{world-traced_of}
 use Rattle.rht_core.proofs.Tracing.TracesInRuns.{remembers}
 use Rattle.rht_core.proofs.Reasons.CausesInRuns.{JobSaw, EndsSeen, job-leads, first_job-saw}
@@ -62,7 +62,7 @@ use Rattle.rht_walk.specs.declared.walk.WalkAt.TheVariants as walks_at
 use Rattle.rht_walk.specs.declared.walk.Visit.{Visit}
 use Rattle.rht_model.specs.declared.history.Cursor.{Cursor}
 use Rattle.rht_core.proofs.Counting.FullTables.{taken}
-use Rattle.rht_core.proofs.Counting.SparedSlots.{IsBesideSlots, SparesSlots, spared_slots, by_load, at_section, other-spares}
+use Rattle.rht_core.proofs.Counting.SparedSlots.{soft-spares, IsBesideSlots, SparesSlots, spared_slots, by_load, at_section, other-spares}
 use Rattle.rht_core.proofs.Histories.BoundAmong.{few-bound, count-few}
 
 -- ---- the words of slots
@@ -219,7 +219,7 @@ module _ (M : Type 0) (mix : ℕ → ℕ → ℕ → ℕ) (env : Env) (roomy : I
     ended-none from limit room state did does now table is =
         let here = subst (λ s. walk.IsWalkAtIn env.geometry s) is does.within in
         none_there did table here
-        (does.found ∙ ap (old_of does.words) (does.planned ∙ ap (walk.plan_at env.geometry does.caller) is)
+        (found_as mix env does ∙ ap (old_of does.words) (ap (walk.plan_at env.geometry does.caller) is)
         ∙ ap (λ w. word_at env.geometry w (Slot table FutureWord)) now)
 
     strange-none : (from : Option Cursor) (limit : ℕ) (room : walk.Pairs) (state : WalkAt) (did : Did)
@@ -228,7 +228,7 @@ module _ (M : Type 0) (mix : ℕ → ℕ → ℕ → ℕ) (env : Env) (roomy : I
     strange-none from limit room state did does now visit is =
         let here = subst (λ s. walk.IsWalkAtIn env.geometry s) is does.within in
         none_there did visit.table here.table_in
-        (does.found ∙ ap (old_of does.words) (does.planned ∙ ap (walk.plan_at env.geometry does.caller) is)
+        (found_as mix env does ∙ ap (old_of does.words) (ap (walk.plan_at env.geometry does.caller) is)
         ∙ ap (λ w. word_at env.geometry w (Slot visit.table FutureWord)) now)
 
     job-calm : (job : Job) (steps : List Did) (did : Did) → (does : Performs mix env job did) → does.words ≡ words_at did.index
@@ -256,10 +256,10 @@ module _ (M : Type 0) (mix : ℕ → ℕ → ℕ → ℕ) (env : Env) (roomy : I
     first_walk-calm None = tt
     first_walk-calm (Some cursor) = tt
 
-    first-calm : (call : Call) (batch : Option BatchModel) → IfSome (first_job env batch call) (CalmJob env)
-    first-calm (Walk from limit) batch = first_walk-calm from
-    first-calm Tidy batch = first_tidy-so (CalmJob env) batch (λ own. tt)
-    first-calm _ batch = tt
+    first-calm : (call : Call) (batch : Option BatchModel) (start : ℕ) → IfSome (first_job env batch call start) (CalmJob env)
+    first-calm (Walk from limit) batch start = first_walk-calm from
+    first-calm Tidy batch start = first_tidy-so (CalmJob env) batch (λ own. tt)
+    first-calm _ batch start = tt
 
     calls-calm : IsAdmitted events
         → let r : Traced M = traced_of mix env events in IsKeeping M mix env Now Ended (view_of r.world c) (r.traces c)
@@ -299,7 +299,8 @@ module _ (M : Type 0) (mix : ℕ → ℕ → ℕ → ℕ) (env : Env) (roomy : I
     step-unmade c (Some op) is =
         let has = has_inv env mix M events admitted in
         let of = step_of env mix M w.core has.ghost c op has.all has.inv is in
-        let spares = subst SparesSlots (sym of.plan) (job-spares env mix c of.few of.job of.within (calm-now c of.job of.is)) in
+        let spares = subst SparesSlots (sym of.plan)
+        (soft-spares (local_of w.core c).held (job_plan env c of.job) (job-spares env mix c of.few of.job of.within (calm-now c of.job of.is))) in
         subst (IsNoTableMade env) (sym (step_words M mix w c op is))
         (no_table_kept env w.core.words (applied w.core.words op)
         (λ place low apart other. spared_slots w.core.words op place spares apart) unmade-now)
@@ -308,7 +309,7 @@ module _ (M : Type 0) (mix : ℕ → ℕ → ℕ → ℕ) (env : Env) (roomy : I
     event-unmade Enroll =
         no_table_kept env w.core.words (applied w.core.words (enrolling w.core.env))
         (λ place low apart other. applied-other w.core.words (enrolling w.core.env) place other) unmade-now
-    event-unmade (Begin c call) = unmade-now
+    event-unmade (Begin c call start) = unmade-now
     event-unmade (Step c) = step-unmade c (planned_in w.core c) refl
 
   -- ---- all events

@@ -31,7 +31,7 @@ use Rattle.rht_grace.specs.Tidy.{TidyModel}
 use Rattle.rht_grace.specs.declared.tidy.TidyAt.{TidyAt}
 use Rattle.rht_callers.specs.declared.local.Doing.{Doing}
 use Rattle.rht_callers.specs.declared.local.Doing.TheVariants.{Idle, Finding, Binding, Releasing, Rebinding, Listing, Working, Counting, Tidying, Walking}
-use Rattle.rht_callers.specs.Locals.{fresh, does_nothing, machine_of, doing_plan, doing_after, owners_after, room_given, pairs_after, pairs_given, local_after, ending_of, doing_next, without_node, IsDoingOf, IsLocalOf}
+use Rattle.rht_callers.specs.Locals.{fresh, does_nothing, machine_from, doing_plan, soft, plan_of, doing_after, owners_after, room_given, pairs_after, pairs_given, local_after, ending_of, doing_next, without_node, IsDoingOf, IsLocalOf}
 use Rattle.rht_core.specs.Laws.{IsDoingIn}
 use Rattle.rht_core.specs.Jobs.{listing_ending, node_ending, Job, finds, binds, releases, rebinds, lists, works, tidies, tidying, tidied, walks, walk_ending, walk_gone, counts, call_of, first_job, first_tidy, job_plan, job_after, job_next, job_of, told, held_of, IsFirstJob}
 use Rattle.rht_release.specs.Release as release
@@ -131,9 +131,9 @@ first-so Now None job kept is = absurd (cc)
 first-so Now (Some first) job kept is = let same : first ≡ job = cc in subst Now same kept
 
 -- what is so of it whatever batch its caller has
-pub first-of : (Now : Job → Type 0) (env : Env) (call : Call) (job : Job) → ((batch : Option BatchModel) → IfSome (first_job env batch call) Now)
+pub first-of : (Now : Job → Type 0) (env : Env) (call : Call) (job : Job) → ((batch : Option BatchModel) (start : ℕ) → IfSome (first_job env batch call start) Now)
     → IsFirstJob env call job → Now job
-first-of Now env call job each (batch, is) = first-so Now (first_job env batch call) job (each batch) is
+first-of Now env call job each (batch, start, is) = first-so Now (first_job env batch call start) job (each batch start) is
 
 -- a tidying begins with its caller's batch
 pub first_tidy-so : (Now : Job → Type 0) (batch : Option BatchModel) → ((own : BatchModel) → Now (tidying (tidy.begun own)))
@@ -145,9 +145,9 @@ first_tidy-so Now (Some own) so = so own
 abbrev HoldsNothing : Job → Type 0
 HoldsNothing job = held_of job ≡ held.holds_nothing
 
-first_job-holds : (env : Env) (call : Call) (batch : Option BatchModel) → IfSome (first_job env batch call) HoldsNothing
-first_job-holds env Tidy batch = first_tidy-so HoldsNothing batch (λ own. refl)
-first_job-holds env _ batch = refl
+first_job-holds : (env : Env) (call : Call) (batch : Option BatchModel) (start : ℕ) → IfSome (first_job env batch call start) HoldsNothing
+first_job-holds env Tidy batch start = first_tidy-so HoldsNothing batch (λ own. refl)
+first_job-holds env _ batch start = refl
 
 pub first_holds : (env : Env) (call : Call) (job : Job) → IsFirstJob env call job
     → held_of job ≡ held.holds_nothing
@@ -178,58 +178,75 @@ module _ {M : Type 0} where
     pub does : job_of doing ≡ Some job
     pub asked : call_of job ≡ call
 
-  pub first_job-machine : (env : Env) (c : ℕ) (batch : Option BatchModel) (call : Call) (doing : Doing M)
-      → machine_of env c batch call ≡ Some doing
+  pub first_job-machine : (env : Env) (c : ℕ) (batch : Option BatchModel) (start : ℕ) (call : Call) (doing : Doing M)
+      → machine_from env c batch call start ≡ Some doing
       → IsFirst env call doing
-  first_job-machine env c batch =
-      begins_so M env c batch (IsFirst env) (λ port. record { job = _; first = (batch, refl); does = refl; asked = refl })
-      (λ port owner once. record { job = _; first = (batch, refl); does = refl; asked = refl })
-      (λ port. record { job = _; first = (batch, refl); does = refl; asked = refl })
-      (λ port owner. record { job = _; first = (batch, refl); does = refl; asked = refl })
-      (λ port owner new. record { job = _; first = (batch, refl); does = refl; asked = refl })
-      (record { job = _; first = (batch, refl); does = refl; asked = refl })
-      (record { job = _; first = (batch, refl); does = refl; asked = refl })
-      (λ own has. record { job = _; first = (batch, ap first_tidy has); does = refl; asked = refl })
-      (λ from limit. record { job = _; first = (batch, refl); does = refl; asked = refl })
+  first_job-machine env c batch start =
+      begins_so M env c batch start (IsFirst env) (λ port. record { job = _; first = (batch, start, refl); does = refl; asked = refl })
+      (λ port owner once. record { job = _; first = (batch, start, refl); does = refl; asked = refl })
+      (λ port. record { job = _; first = (batch, start, refl); does = refl; asked = refl })
+      (λ port owner. record { job = _; first = (batch, start, refl); does = refl; asked = refl })
+      (λ port owner new. record { job = _; first = (batch, start, refl); does = refl; asked = refl })
+      (record { job = _; first = (batch, start, refl); does = refl; asked = refl })
+      (record { job = _; first = (batch, start, refl); does = refl; asked = refl })
+      (λ own has. record { job = _; first = (batch, start, ap first_tidy has); does = refl; asked = refl })
+      (λ from limit. record { job = _; first = (batch, start, refl); does = refl; asked = refl })
 
   -- ---- an operation
 
-  -- what this caller plans is its job's operation, in the table of the run
-  pub record PlansJob (env : Env) (c : ℕ) (doing : Doing M) (op : Op) : Type 0 where
-    pub job : Job
-    pub does : job_of doing ≡ Some job
-    pub plan : op ≡ job_plan env c job
+  -- what this machine plans is its job's operation, in the table of the run
+  record PlansJobOf (env : Env) (c : ℕ) (doing : Doing M) (op : Op) : Type 0 where
+    job : Job
+    does : job_of doing ≡ Some job
+    plan : op ≡ job_plan env c job
 
   plans-so : (env : Env) (c : ℕ) (doing : Doing M) (op : Op) (job : Job) (own : Env) (caller : ℕ) → job_of doing ≡ Some job
       → doing_plan doing ≡ Some (job_plan own caller job) → own ≡ env → caller ≡ c → doing_plan doing ≡ Some op
-      → PlansJob env c doing op
+      → PlansJobOf env c doing op
   plans-so env c doing op job own caller does planned of mine plan =
       let here : op ≡ job_plan own caller job = let both = sym plan ∙ planned in cc in
       let owned = subst (λ (e : Env). op ≡ job_plan e caller job) of here in
       record { job = job; does = does; plan = subst (λ d. op ≡ job_plan env d job) mine owned }
 
-  pub plan-job : (env : Env) (c : ℕ) (doing : Doing M) (op : Op) → IsDoingIn env c doing → doing_plan doing ≡ Some op
-      → PlansJob env c doing op
-  plan-job env c Idle op within plan = absurd (cc)
-  plan-job env c (Finding m) op within plan =
+  machine-job : (env : Env) (c : ℕ) (doing : Doing M) (op : Op) → IsDoingIn env c doing → doing_plan doing ≡ Some op
+      → PlansJobOf env c doing op
+  machine-job env c Idle op within plan = absurd (cc)
+  machine-job env c (Finding m) op within plan =
       plans-so env c (Finding m) op (finds m.port m.at) m.env m.caller refl refl within.same_env within.same_caller plan
-  plan-job env c (Binding m) op within plan =
+  machine-job env c (Binding m) op within plan =
       plans-so env c (Binding m) op (binds m.port m.owner m.once m.at) m.env m.caller refl refl within.same_env within.same_caller plan
-  plan-job env c (Listing m) op within plan =
+  machine-job env c (Listing m) op within plan =
       plans-so env c (Listing m) op (lists m.port m.room m.at) m.env m.caller refl refl within.same_env within.same_caller plan
-  plan-job env c (Releasing m) op within plan =
+  machine-job env c (Releasing m) op within plan =
       plans-so env c (Releasing m) op (releases m.port m.owner m.at) m.env m.caller refl refl within.same_env within.same_caller plan
-  plan-job env c (Rebinding m) op within plan =
+  machine-job env c (Rebinding m) op within plan =
       plans-so env c (Rebinding m) op (rebinds m.port m.owner m.new_owner m.at) m.env m.caller refl refl
       within.same_env within.same_caller plan
-  plan-job env c (Working m) op within plan =
+  machine-job env c (Working m) op within plan =
       plans-so env c (Working m) op (works m.at) m.env m.caller refl refl within.same_env within.same_caller plan
-  plan-job env c (Tidying m) op within plan =
+  machine-job env c (Tidying m) op within plan =
       let here : op ≡ tidy.plan_at m.geometry m.batch m.at = let both = sym plan in cc in
       record { job = tidies m.batch m.at; does = refl; plan = here ∙ ap (λ g. tidy.plan_at g m.batch m.at) within.same_geometry }
-  plan-job env c (Walking m) op within plan =
+  machine-job env c (Walking m) op within plan =
       plans-so env c (Walking m) op (walks m.from m.limit m.room m.at) m.env m.caller refl refl within.same_env within.same_caller plan
-  plan-job env c (Counting m) op within plan = plans-so env c (Counting m) op counts m.env c refl refl within refl plan
+  machine-job env c (Counting m) op within plan = plans-so env c (Counting m) op counts m.env c refl refl within refl plan
+
+  -- what a caller plans is that operation, which loads the word where it would turn a section that the caller holds open
+  pub record PlansJob (env : Env) (c : ℕ) (local : Local M) (op : Op) : Type 0 where
+    pub job : Job
+    pub does : job_of local.doing ≡ Some job
+    pub plan : op ≡ soft local.held (job_plan env c job)
+
+  pub plan-job : (env : Env) (c : ℕ) (local : Local M) (op : Op) → IsDoingIn env c local.doing → plan_of local ≡ Some op
+      → PlansJob env c local op
+  plan-job env c local op within plan = go (doing_plan local.doing) refl plan
+    where
+      go : (planned : Option Op) → doing_plan local.doing ≡ planned → option_map (soft local.held) planned ≡ Some op → PlansJob env c local op
+      go None is plan = absurd (cc)
+      go (Some own) is plan =
+          let of = machine-job env c local.doing own within is in
+          let same : op ≡ soft local.held own = let both = sym plan in cc in
+          record { job = of.job; does = of.does; plan = same ∙ ap (soft local.held) of.plan }
 
   module _ (local : Local M) (none : HasNoLists local) where
     -- the job that a caller has after this has become of what it does and of its rooms, and how its call has

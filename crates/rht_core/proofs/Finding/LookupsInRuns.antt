@@ -6,6 +6,7 @@ use Rattle.std.proofs.Common.{◌≡◌, ◌≢◌, ℕ, ◌+◌, ◌%◌, ◌<�
 use Rattle.std.proofs.lemmas.Bool.{cases_eq}
 use Rattle.rht_words.specs.declared.op.Op.{Op}
 use Rattle.rht_words.specs.declared.env.Env.{Env}
+use Rattle.rht_core.proofs.Machines.HeldSteps.{soft-old}
 use Rattle.rht_words.specs.declared.config.Kind.{Kind}
 use Rattle.rht_words.specs.declared.machine.Next.{Next}
 use Rattle.rht_words.specs.declared.machine.Next.TheVariants.{Go, Done}
@@ -75,30 +76,30 @@ module _ (L : Type 0) (mix : ℕ → ℕ → ℕ → ℕ) (env : Env) where
 
   -- ---- each event
 
-  pub begin-looks : (events : List Event) (c : ℕ) (call : Call) (machine : Option (Doing L)) (looking : AreLooking L mix env events (R events))
-      → (turn : Turns L mix env events (Begin c call) looking)
-      → beginning_in (R events).world.core c call ≡ machine → EachLooks L mix env events (Begin c call) looking turn
-  begin-looks events c call None looking turn is = λ d.
+  pub begin-looks : (events : List Event) (c : ℕ) (call : Call) (start : ℕ) (machine : Option (Doing L)) (looking : AreLooking L mix env events (R events))
+      → (turn : Turns L mix env events (Begin c call start) looking)
+      → beginning_in (R events).world.core c call start ≡ machine → EachLooks L mix env events (Begin c call start) looking turn
+  begin-looks events c call start None looking turn is = λ d.
       let r = R events in
-      as_before L mix env events (Begin c call) looking turn d
-      (ap (λ (w : World L). job_of (local_of w.core d).doing) (begin_none L mix r.world c call is))
-      (ap (λ (t : ℕ → Trace). t d) (trace_begin_none L mix r c call is))
-  begin-looks events c call (Some machine) looking turn is = λ d.
+      as_before L mix env events (Begin c call start) looking turn d
+      (ap (λ (w : World L). job_of (local_of w.core d).doing) (begin_none L mix r.world c call start is))
+      (ap (λ (t : ℕ → Trace). t d) (trace_begin_none L mix r c call start is))
+  begin-looks events c call start (Some machine) looking turn is = λ d.
       let r = R events in
-      let event = Begin c call in
+      let event = Begin c call start in
       let sound = looking.placed.all in
-      let can = beginning-some r.world.core.env r.world.core.enrolled r.world.core.locals c call machine is in
+      let can = beginning-some r.world.core.env r.world.core.enrolled r.world.core.locals c call start machine is in
       let place = has_place L mix env r.world.core c sound.stays can.below in
       let low : c < env.geometry.callers = omega (arith, can.below, sound.stays.few_enrolled) in
-      let first = first_job-machine env c (local_of r.world.core c).batch call machine (made_in L mix env r.world.core c call machine sound.stays can) in
+      let first = first_job-machine env c (local_of r.world.core c).batch start call machine (made_in L mix env r.world.core c call start machine sound.stays can) in
       elim (cases_eq d c) [
         | inl same ↦
             subst (λ k. LooksThen L mix env events event looking turn k (traces_after mix r event k)
             (job_of (local_of (world_step mix r.world event).core k).doing)) (sym same)
             (found_with L mix env events event looking turn c (trace_begun (length events) (r.traces c)) _ (Some first.job) _
-            (trace_begin_self L mix r c call machine is
+            (trace_begin_self L mix r c call start machine is
             ∙ ap (λ n. trace_begun n (r.traces c)) (count-traced_of L mix env events))
-            (ap (λ (s : View L). job_of s.local.doing) (begin_self L mix r.world c call machine is place) ∙ first.does)
+            (ap (λ (s : View L). job_of s.local.doing) (begin_self L mix r.world c call start machine is place) ∙ first.does)
             (record {
               past = pasts-later L mix env events event looking turn c (r.traces c).past (looking.looks c).past;
               now = first-of (λ job. JobLooks L mix env (events ++ event ∷ []) (world_step mix r.world event).core
@@ -107,8 +108,8 @@ module _ (L : Type 0) (mix : ℕ → ℕ → ℕ → ℕ) (env : Env) where
             }))
         | inr other ↦
             as_before L mix env events event looking turn d
-            (ap (λ (s : View L). job_of s.local.doing) (begin_other L mix r.world c call d other))
-            (trace_begin_other L mix r c call d other)
+            (ap (λ (s : View L). job_of s.local.doing) (begin_other L mix r.world c call start d other))
+            (trace_begin_other L mix r c call start d other)
       ]
 
   pub step-looks : (events : List Event) (c : ℕ) (plan : Option Op) → IsAdmitted events → (looking : AreLooking L mix env events (R events))
@@ -140,6 +141,8 @@ module _ (L : Type 0) (mix : ℕ → ℕ → ℕ → ℕ) (env : Env) where
       let did : Did = record { index = r.count; op = op; old = old } in
       let does : job_of (local_of (world_step mix r.world (Step c)).core c).doing ≡ (told (job_after mix env of.job old)).0 =
       ap (λ (s : View L). job_of s.local.doing) (step_self L mix r.world c op is place) ∙ ap (λ l. l.0) left in
+      let found : old_of core.words op ≡ old_of core.words (job_plan env c of.job) =
+      ap (old_of core.words) of.plan ∙ soft-old local.held (job_plan env c of.job) core.words in
       elim (cases_eq d c) [
         | inl same ↦
             subst (λ k. LooksThen L mix env events (Step c) looking turn k (traces_after mix r (Step c) k)
@@ -153,13 +156,13 @@ module _ (L : Type 0) (mix : ℕ → ℕ → ℕ → ℕ) (env : Env) where
             ∙ ap (λ l. trace_did (Some (call_of of.job)) did l.1 (r.traces c)) left)
             does
             (subst (λ o. LooksThen L mix env events (Step c) looking turn c
-            (trace_did (Some (call_of of.job)) did (told (job_after mix env of.job (old_of core.words o))).1 (r.traces c))
-            (told (job_after mix env of.job (old_of core.words o))).0) (sym of.plan)
-            (own L mix env events (Step c) looking turn c (r.traces c) did (count-traced_of L mix env events) of.job of.is of.within
+            (trace_did (Some (call_of of.job)) did (told (job_after mix env of.job o)).1 (r.traces c))
+            (told (job_after mix env of.job o)).0) (sym found)
+            (own L mix env events (Step c) looking turn c (r.traces c) did (count-traced_of L mix env events) local.held of.job of.is of.within
             (looking.looks c).past
             (subst (JobLooks L mix env events core looking.placed (looking.readers c).chains c (r.traces c).begin (r.traces c).steps)
             of.is (looking.looks c).now) of.plan
-            (does ∙ ap (λ o. (told (job_after mix env of.job (old_of core.words o))).0) of.plan))))
+            (does ∙ ap (λ o. (told (job_after mix env of.job o)).0) found))))
         | inr other ↦
             as_before L mix env events (Step c) looking turn d
             (ap (λ (s : View L). job_of s.local.doing) (step_other L mix r.world c d other))
@@ -205,7 +208,8 @@ module _ (L : Type 0) (mix : ℕ → ℕ → ℕ → ℕ) (env : Env) where
         (λ port. SaysOf L mix env events c port trace.begin) placed.places of.job of.within of.knows
         (subst (tied_with env mix G) of.is (looking.meets c of.low).tied)
         (look_known c trace.begin trace.steps of.job looks) in
-        let same : old_of core.words op ≡ old_of core.words (job_plan env c of.job) = ap (old_of core.words) of.plan in
+        let same : old_of core.words op ≡ old_of core.words (job_plan env c of.job) =
+        ap (old_of core.words) of.plan ∙ soft-old (local_of core c).held (job_plan env c of.job) core.words in
         subst (ComesTo env.geometry core.words (standing core c))
         (sym (ap standing_with (next_job env mix L core G placed.all placed.inv c op plan)
         ∙ ap (λ old. standing_with (told (job_after mix env of.job old)).0) same))
@@ -310,7 +314,7 @@ module _ (L : Type 0) (mix : ℕ → ℕ → ℕ → ℕ) (env : Env) where
     where
       each : (event : Event) → (turn : Turns L mix env events event looking) → EachLooks L mix env events event looking turn
       each Enroll turn = λ d. as_before L mix env events Enroll looking turn d refl refl
-      each (Begin c call) turn = begin-looks events c call (beginning_in (R events).world.core c call) looking turn refl
+      each (Begin c call start) turn = begin-looks events c call start (beginning_in (R events).world.core c call start) looking turn refl
       each (Step c) turn = step-looks events c (planned_in (R events).world.core c) admitted looking turn refl
 
   unfoldable pub opening-looks : AreLooking L mix env [] (R [])

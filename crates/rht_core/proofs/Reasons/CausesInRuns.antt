@@ -20,6 +20,8 @@ use Rattle.rht_model.specs.Endings.{Ending, plain_ending}
 use Rattle.rht_find.specs.Find.{after_at as find_after_at}
 use Rattle.rht_bind.specs.Bind.{after_at}
 use Rattle.rht_release.specs.All as all
+use Rattle.rht_words.specs.Ways.{start_in}
+use Rattle.rht_arena.proofs.NodesSeen.{SawPassed-none}
 use Rattle.rht_core.specs.declared.event.Event.{Event}
 use Rattle.rht_grace.specs.Batch.{BatchModel}
 use Rattle.rht_core.specs.Jobs.{listing_ending, node_ending, call_of, Job, finds, binds, releases, rebinds, lists, works, tidies, tidying, tidied, walks, walk_ending, walk_gone, counts, first_job, job_next, job_after, IsFirstJob}
@@ -43,7 +45,7 @@ use Rattle.rht_words.specs.Machines.{GoesOrEnds}
 use Rattle.rht_core.proofs.Tracing.RepliesInRuns.{Holds, Answered, runs-right}
 use Rattle.rht_core.proofs.Tracing.TracesAtEvents.{at_events}
 use Rattle.rht_core.proofs.Events.JobsOfCallers.{first_tidy-so, first-of}
-use Rattle.rht_core.proofs.Tracing.TracedJobs.{Performs, StandsIn, LeadsOn, IsEndedSo, jobs_keep_own}
+use Rattle.rht_core.proofs.Tracing.TracedJobs.{hard, Performs, StandsIn, LeadsOn, IsEndedSo, jobs_keep_own}
 use Rattle.rht_move.specs.Work as work
 use Rattle.rht_core.proofs.Reasons.WorksSeen.{SawForWork, SawAtWork}
 use Rattle.rht_core.proofs.Reasons.WorkStepsSeen.{work-saw}
@@ -123,8 +125,8 @@ module _ (M : Type 0) (mix : ℕ → ℕ → ℕ → ℕ) (env : Env) (events : 
       (after_at mix env port once state did.old)
       (all-saw env words_at mix port c (after_at mix env port once state did.old) (steps ++ did ∷ [])
       (bind-saw env words_at mix port c owner once state steps did performs own now saw.0 saw.1.0 saw.1.1)
-      (attached-saw env mix performs.caller port once state steps did performs.within.at_in performs.planned saw.1.0)
-      (unraised-saw env mix performs.caller port once state steps did performs.planned saw.1.1))
+      (attached-saw env mix performs.caller port once state steps did performs.within.at_in (hard mix env refl performs) saw.1.0)
+      (unraised-saw env mix performs.caller port once state steps did (hard mix env refl performs) saw.1.1))
   job-leads (lists port room state) steps did performs own now saw =
       let after = all.room_after state room did.old in
       let next = all.after_at mix env port state did.old in
@@ -133,7 +135,7 @@ module _ (M : Type 0) (mix : ℕ → ℕ → ℕ → ℕ) (env : Env) (events : 
   job-leads (releases port owner state) steps did performs own now saw =
       let next = release.after_at mix env port owner state did.old in
       next-leads (releases port owner state) (releases port owner) node_ending (steps ++ did ∷ []) next
-      (release-saw env mix performs.caller port owner state steps did performs.within performs.planned saw)
+      (release-saw env mix performs.caller port owner state steps did performs.within (hard mix env refl performs) saw)
   job-leads (rebinds port owner new state) steps did performs own now saw =
       next-leads (rebinds port owner new state) (rebinds port owner new) node_ending (steps ++ did ∷ [])
       (rebind.after_at mix env port owner state did.old)
@@ -143,7 +145,7 @@ module _ (M : Type 0) (mix : ℕ → ℕ → ℕ → ℕ) (env : Env) (events : 
       (work-saw env c words_at mix state steps did performs own now.now saw)
   job-leads (tidies batch state) steps did performs own now saw =
       next-leads (tidies batch state) tidying plain_ending (steps ++ did ∷ []) (tidied (tidy.after_at env.geometry batch state did.old))
-      (tidy-saw env.geometry batch state steps did performs.within performs.planned saw)
+      (tidy-saw env.geometry batch state steps did performs.within (hard mix env refl performs) saw)
   job-leads (walks from limit room state) steps did performs own now saw =
       let after = walk.room_after state room did.old in
       let next = walk_gone env from limit room after state did.old in
@@ -152,14 +154,14 @@ module _ (M : Type 0) (mix : ℕ → ℕ → ℕ → ℕ) (env : Env) (events : 
   job-leads counts steps did performs own now saw =
       Any-push (LoadedCount env did.old) steps did (record { loaded = performs.planned; found = refl })
 
-  -- below the first node there is none
-  first-saw : (call : Call) (batch : Option BatchModel) → IfSome (first_job env batch call) (λ job. JobSaw env c words_at mix job [])
-  first-saw (Bind port owner once) batch = (λ node l. absurd (omega arith), (tt, tt))
-  first-saw (Release port owner) batch = (tt, tt)
-  first-saw (Rebind port owner new) batch = λ node l. absurd (omega arith)
-  first-saw Work batch = refl
-  first-saw Tidy batch = first_tidy-so (λ job. JobSaw env c words_at mix job []) batch (first_tidy-saw env.geometry)
-  first-saw _ batch = tt
+  -- who has only begun has come past no node
+  first-saw : (call : Call) (batch : Option BatchModel) (start : ℕ) → IfSome (first_job env batch call start) (λ job. JobSaw env c words_at mix job [])
+  first-saw (Bind port owner once) batch start = (SawPassed-none env.geometry (start_in env start), (tt, tt))
+  first-saw (Release port owner) batch start = (tt, tt)
+  first-saw (Rebind port owner new) batch start = SawPassed-none env.geometry (start_in env start)
+  first-saw Work batch start = refl
+  first-saw Tidy batch start = first_tidy-so (λ job. JobSaw env c words_at mix job []) batch (first_tidy-saw env.geometry)
+  first-saw _ batch start = tt
 
   pub first_job-saw : (call : Call) (job : Job) → IsFirstJob env call job
       → JobSaw env c words_at mix job []

@@ -1,5 +1,7 @@
 -- In every run each walk knows, in each of its states, what it needs for what it answers. It is an induction over the events, beside that
 -- of look-ups, on the same ghost and the same places.
+use Rattle.rht_core.specs.Jobs.{job_plan}
+use Rattle.rht_core.proofs.Machines.HeldSteps.{soft-old}
 use Rattle.std.proofs.Common.{◌≡◌, ℕ, ◌<◌, List, [], ◌∷◌, ◌++◌, length, Option, Some, None, refl, sym, ◌∙◌, ap, subst, inl, inr, arith}
 use Rattle.std.proofs.lemmas.Bool.{cases_eq}
 use Rattle.rht_words.specs.declared.op.Op.{Op}
@@ -69,31 +71,31 @@ module _ (L : Type 0) (mix : ℕ → ℕ → ℕ → ℕ) (env : Env) where
               refl had.now;
         })
 
-  begin-walks : (events : List Event) (c : ℕ) (call : Call) (machine : Option (Doing L)) (walking : AreWalking L mix env events (Rs events))
-      → (turn : Turns L mix env events (Begin c call) walking.looking)
-      → beginning_in (Rs events).world.core c call ≡ machine → EachWalks events (Begin c call) walking turn
-  begin-walks events c call None walking turn is = λ d.
+  begin-walks : (events : List Event) (c : ℕ) (call : Call) (start : ℕ) (machine : Option (Doing L)) (walking : AreWalking L mix env events (Rs events))
+      → (turn : Turns L mix env events (Begin c call start) walking.looking)
+      → beginning_in (Rs events).world.core c call start ≡ machine → EachWalks events (Begin c call start) walking turn
+  begin-walks events c call start None walking turn is = λ d.
       let r = Rs events in
-      as_before events (Begin c call) walking turn d
-      (ap (λ (w : World L). job_of (local_of w.core d).doing) (begin_none L mix r.world c call is))
-      (ap (λ (t : ℕ → Trace). t d) (trace_begin_none L mix r c call is))
-  begin-walks events c call (Some machine) walking turn is = λ d.
+      as_before events (Begin c call start) walking turn d
+      (ap (λ (w : World L). job_of (local_of w.core d).doing) (begin_none L mix r.world c call start is))
+      (ap (λ (t : ℕ → Trace). t d) (trace_begin_none L mix r c call start is))
+  begin-walks events c call start (Some machine) walking turn is = λ d.
       let r = Rs events in
-      let event = Begin c call in
+      let event = Begin c call start in
       let sound = walking.looking.placed.all in
-      let can = beginning-some r.world.core.env r.world.core.enrolled r.world.core.locals c call machine is in
+      let can = beginning-some r.world.core.env r.world.core.enrolled r.world.core.locals c call start machine is in
       let place = has_place L mix env r.world.core c sound.stays can.below in
       let low : c < env.geometry.callers = omega (arith, can.below, sound.stays.few_enrolled) in
-      let first = first_job-machine env c (local_of r.world.core c).batch call machine
-      (made_in L mix env r.world.core c call machine sound.stays can) in
+      let first = first_job-machine env c (local_of r.world.core c).batch start call machine
+      (made_in L mix env r.world.core c call start machine sound.stays can) in
       elim (cases_eq d c) [
         | inl same ↦
             subst (λ k. Then events event walking turn k (traces_after mix r event k)
             (job_of (local_of (world_step mix r.world event).core k).doing)) (sym same)
             (found_with events event walking turn c (trace_begun (length events) (r.traces c)) _ (Some first.job) _
-            (trace_begin_self L mix r c call machine is
+            (trace_begin_self L mix r c call start machine is
             ∙ ap (λ n. trace_begun n (r.traces c)) (count-traced_of L mix env events))
-            (ap (λ (s : View L). job_of s.local.doing) (begin_self L mix r.world c call machine is place) ∙ first.does)
+            (ap (λ (s : View L). job_of s.local.doing) (begin_self L mix r.world c call start machine is place) ∙ first.does)
             (record {
               past = pasts_later L mix env events event walking.looking turn walking.of_ports walking.count walking.counted _
                   (walking.walks c).past;
@@ -106,8 +108,8 @@ module _ (L : Type 0) (mix : ℕ → ℕ → ℕ → ℕ) (env : Env) where
             }))
         | inr other ↦
             as_before events event walking turn d
-            (ap (λ (s : View L). job_of s.local.doing) (begin_other L mix r.world c call d other))
-            (trace_begin_other L mix r c call d other)
+            (ap (λ (s : View L). job_of s.local.doing) (begin_other L mix r.world c call start d other))
+            (trace_begin_other L mix r c call start d other)
       ]
 
   step-walks : (events : List Event) (c : ℕ) (plan : Option Op) → IsAdmitted events
@@ -141,6 +143,8 @@ module _ (L : Type 0) (mix : ℕ → ℕ → ℕ → ℕ) (env : Env) where
       let did : Did = record { index = r.count; op = op; old = old } in
       let does : job_of (local_of (world_step mix r.world (Step c)).core c).doing ≡ (told (job_after mix env of.job old)).0 =
       ap (λ (s : View L). job_of s.local.doing) (step_self L mix r.world c op is place) ∙ ap (λ l. l.0) left in
+      let found : old_of core.words op ≡ old_of core.words (job_plan env c of.job) =
+      ap (old_of core.words) of.plan ∙ soft-old local.held (job_plan env c of.job) core.words in
       elim (cases_eq d c) [
         | inl same ↦
             subst (λ k. Then events (Step c) walking turn k (traces_after mix r (Step c) k)
@@ -154,14 +158,14 @@ module _ (L : Type 0) (mix : ℕ → ℕ → ℕ → ℕ) (env : Env) where
             ∙ ap (λ l. trace_did (Some (call_of of.job)) did l.1 (r.traces c)) left)
             does
             (subst (λ o. Then events (Step c) walking turn c
-            (trace_did (Some (call_of of.job)) did (told (job_after mix env of.job (old_of core.words o))).1 (r.traces c))
-            (told (job_after mix env of.job (old_of core.words o))).0) (sym of.plan)
+            (trace_did (Some (call_of of.job)) did (told (job_after mix env of.job o)).1 (r.traces c))
+            (told (job_after mix env of.job o)).0) (sym found)
             (own_walks L mix env events (Step c) walking.looking turn walking.of_ports walking.count walking.counted c (r.traces c) did
-            (count-traced_of L mix env events) of.job of.plan (ap (old_of core.words) of.plan) of.is of.within (walking.walks c).past
+            (count-traced_of L mix env events) local.held of.job of.plan found of.is of.within (walking.walks c).past
             (subst (JobWalks L mix env events core placed walking.count (walking.looking.readers c).chains c (r.traces c).begin
             (owners_loaded env.geometry (r.traces c).steps))
             of.is (walking.walks c).now)
-            (does ∙ ap (λ o. (told (job_after mix env of.job (old_of core.words o))).0) of.plan))))
+            (does ∙ ap (λ o. (told (job_after mix env of.job o)).0) found))))
         | inr other ↦
             as_before events (Step c) walking turn d
             (ap (λ (s : View L). job_of s.local.doing) (step_other L mix r.world c d other))
@@ -186,7 +190,7 @@ module _ (L : Type 0) (mix : ℕ → ℕ → ℕ → ℕ) (env : Env) where
     where
       each : (event : Event) → (turn : Turns L mix env events event walking.looking) → EachWalks events event walking turn
       each Enroll turn = λ d. as_before events Enroll walking turn d refl refl
-      each (Begin c call) turn = begin-walks events c call (beginning_in (Rs events).world.core c call) walking turn refl
+      each (Begin c call start) turn = begin-walks events c call start (beginning_in (Rs events).world.core c call start) walking turn refl
       each (Step c) turn = step-walks events c (planned_in (Rs events).world.core c) admitted walking turn refl
 
   opening-walks : AreWalking L mix env [] (Rs [])
