@@ -121,3 +121,5 @@ pub mod WorkPhases
 pub mod RetiredStay
 -- what becomes of such a slot while retired tables are given back
 pub mod ReturnedSlots
+-- at whose section words calls look
+pub mod SectionsLooked

@@ -22,8 +22,12 @@ pub mod LoneCalls
 pub mod RepliesInRuns
 -- what tidyings have given back, by their states
 pub mod TidiedBatches
+-- a caller's batch at the events of a run
+pub mod BatchesAtEvents
 -- and so in every run
 pub mod TidiesInRuns
+-- what other calls leave of their caller's batch
+pub mod KeptBatches
 -- the operations of walks are those of their machine
 pub mod WalksInRuns
 -- and what of jobs where something else is kept

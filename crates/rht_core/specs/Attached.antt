@@ -115,7 +115,7 @@ pub record KeepsWordOf (g : Geometry) (slot caller : ℕ) (before : List Did) (d
   pub since : List Did
   pub load : Did
   pub split : before ≡ sooner ++ at ∷ (since ++ load ∷ [])
-  pub retires : StoresRetired g slot at
+  pub retires : RetiresSlot g slot at
   pub loads : LoadsWord g (Section caller) load
   pub stores : did.op ≡ Store (place_of g (Slot slot (LoadedSection caller))) load.old
 
@@ -140,7 +140,7 @@ pub record HasKeptSections (g : Geometry) (slot : ℕ) (steps : List Did) : Type
   pub keeping : List Did
   pub last : Did
   pub split : steps ≡ before ++ at ∷ (keeping ++ last ∷ [])
-  pub retires : StoresRetired g slot at
+  pub retires : RetiresSlot g slot at
   pub kept : SectionsKept g slot (map performed_of keeping)
   pub gives : last.op ≡ Store (place_of g WorkLock) 0
 

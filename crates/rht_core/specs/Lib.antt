@@ -40,14 +40,18 @@ pub mod Standings
 pub mod Reach
 -- what is so of pages and slots that are free
 pub mod Free
--- what a call that tidies gives back
+-- what a call that tidies gives back, and what others leave of a batch
 pub mod Tidied
+-- which removals a tidying hands out, and that open sections came behind them
+pub mod Removals
 -- what a call gives back of retired tables
 pub mod Returned
 -- what a full walk shows
 pub mod Shown
 -- who is in no read section
 pub mod Sections
+-- and for whose section a call waits
+pub mod Awaited
 -- what the count of ports counts, and a table that nobody uses
 pub mod Counts
 -- how many calls took a node

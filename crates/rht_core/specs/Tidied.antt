@@ -1,11 +1,14 @@
--- What a call that tidies gives back, and why one waits, in every run. And a caller in no call keeps the batch that its last call left.
-use Rattle.std.specs.Prelude.{◌≡◌, ◌↔◌, ℕ, ◌+◌, ◌<◌, true, List, [], length, map, take, Option, Some, None}
+-- What a call that tidies gives back, and why one waits, in every run. Each other call leaves its caller's batch, but for the node that it takes
+-- out. And a caller in no call keeps the batch that its last call left.
+use Rattle.std.specs.Prelude.{◌≡◌, ◌≢◌, ◌↔◌, ℕ, ◌+◌, ◌<◌, ◌++◌, true, false, List, [], ◌∷◌, length, map, take, Option, Some, None}
 use Rattle.std.specs.List.{AllByRecursion, Any, slice_get}
 use Rattle.rht_words.specs.declared.env.Env.{Env}
 use Rattle.rht_words.specs.declared.geometry.Geometry.{Geometry}
 use Rattle.rht_words.specs.Members.{In}
-use Rattle.rht_model.specs.declared.history.Call.TheVariants.{Tidy}
+use Rattle.rht_model.specs.declared.history.Call.{Call}
+use Rattle.rht_model.specs.declared.history.Call.TheVariants.{Release, Rebind, Tidy}
 use Rattle.rht_model.specs.declared.history.Reply.TheVariants.{Clear, Pending}
+use Rattle.rht_model.specs.Replies.{takes_out}
 use Rattle.rht_grace.specs.Batch.{BatchModel, batch_new}
 use Rattle.rht_grace.specs.TidyLaws.{due_of, left_of, EndsRightly}
 use Rattle.rht_arena.specs.Laws.{map_place, map_bit}
@@ -14,6 +17,8 @@ use Rattle.rht_callers.specs.Batches.{batch_room}
 use Rattle.rht_callers.specs.Locals.{is_idle}
 use Rattle.rht_core.specs.Runs.{Core, local_of, run_of, IsAdmitted}
 use Rattle.rht_core.specs.Reach.{SetsBit}
+use Rattle.rht_core.specs.Seen.{words_before}
+use Rattle.rht_stands.specs.StandsFor.{nodes_of}
 use Rattle.rht_core.specs.Traces.{Did, Past, performed_of, traced_of, behind_call}
 
 -- one of the operations sets the node's bit
@@ -32,6 +37,32 @@ pub record TidiesRightly (g : Geometry) (before after : BatchModel) (past : Past
       → (after.waiting ≡ due_of before.fresh before.waiting)
       × (after.fresh ≡ left_of before.fresh before.waiting)
       × ((node : ℕ) → ¬ GivesNode g past.steps node)
+
+-- the call takes a binding of this port out
+abbrev pub RemovesAt : Call → ℕ → Type 0
+RemovesAt (Release port owner) at = port ≡ at
+RemovesAt (Rebind port owner new) at = port ≡ at
+RemovesAt _ at = ⊥
+
+-- where these are the words before the event with each number: the operation took this node out of the list of this port
+pub record TakesNodeOut (g : Geometry) (words_at : ℕ → List ℕ) (port node : ℕ) (did : Did) : Type 0 where
+  pub before : In node (nodes_of g (words_at did.index) port)
+  pub behind : ¬ In node (nodes_of g (words_at (did.index + 1)) port)
+
+-- one of the operations of this call took the node out of the list of the call's port
+pub record HasTakenOut (g : Geometry) (words_at : ℕ → List ℕ) (call : Call) (node : ℕ) (steps : List Did) : Type 0 where
+  pub port : ℕ
+  pub removes : RemovesAt call port
+  pub takes : Any (TakesNodeOut g words_at port node) steps
+
+-- A call that is no tidying leaves the nodes that wait, and the words that are kept for them. The fresh ones stay, in order. Behind them
+-- comes the one that the call has taken out, exactly where the reply says that one was.
+pub record KeepsBatch (g : Geometry) (words_at : ℕ → List ℕ) (before after : BatchModel) (past : Past) : Type 0 where
+  pub waiting : after.waiting ≡ before.waiting
+  pub kept : after.kept ≡ before.kept
+  pub takes : takes_out past.done.reply ≡ true
+      → (node : ℕ) × (after.fresh ≡ before.fresh ++ node ∷ []) × HasTakenOut g words_at past.done.call node past.steps
+  pub leaves : takes_out past.done.reply ≡ false → after.fresh ≡ before.fresh
 
 -- a caller's batch, wherever it lies
 abbrev pub batch_or : Geometry → Option BatchModel → BatchModel
@@ -69,3 +100,12 @@ module _ (M : Type 0) (mix : ℕ → ℕ → ℕ → ℕ) where
       → (i : ℕ) (last : Past) → let ended = ((traced_of {M = M} mix env events).traces c).past in
       slice_get ended i ≡ Some last → length ended ≡ i + 1
       → batch_of (run_of {M = M} mix env events).core c ≡ batch_before env events c (behind_call last)
+
+  -- in every run each call that has ended and is no tidying has kept its caller's batch
+  abbrev pub Kept : Type 0
+  Kept =
+      (env : Env) (events : List Event) (c : ℕ) → IsAdmitted events
+      → AllByRecursion
+      (λ (past : Past). past.done.call ≢ Tidy
+      → KeepsBatch env.geometry (words_before M mix env events) (batch_before env events c past.begin) (batch_before env events c (behind_call past)) past)
+      ((traced_of {M = M} mix env events).traces c).past

@@ -2,9 +2,10 @@
 
 ghost use Rattle.rht_core.specs.Alone.{Alone};
 ghost use Rattle.rht_core.specs.Attached.{Attached, KeepsAtRetiring};
+ghost use Rattle.rht_core.specs.Awaited.{Awaited};
 ghost use Rattle.rht_core.specs.Causes.{Causes};
 ghost use Rattle.rht_core.specs.Counts.{Counted, AtRest, OwnBatches};
-ghost use Rattle.rht_core.specs.Tidied.{Tidied, Rests};
+ghost use Rattle.rht_core.specs.Tidied.{Tidied, Rests, Kept};
 ghost use Rattle.rht_core.specs.FewPorts.{FewPorts, OneCaller};
 ghost use Rattle.rht_core.specs.Free.{AreFreePagesBlank, AreFreeSlotsUnled};
 ghost use Rattle.rht_core.specs.Kicks.{Kicks};
@@ -18,6 +19,7 @@ ghost use Rattle.rht_core.specs.Reach.{Safe, NeverFree, Inside};
 ghost use Rattle.rht_core.specs.Refused.{Refused};
 ghost use Rattle.rht_core.specs.Tables.{Tables, NeverAgain};
 ghost use Rattle.rht_core.specs.RunHistories.{HasFittingHistory};
+ghost use Rattle.rht_core.specs.Removals.{Grace, Handed, HandsOut, AreRemoved};
 ghost use Rattle.rht_core.specs.Sections.{Sections, OwnSections};
 ghost use Rattle.rht_core.specs.Shown.{Shown, ShownBound, ShownWhole};
 ghost use Rattle.rht_core.specs.ToldHistories.{HasToldHistory};
@@ -278,9 +280,43 @@ pub fn at_rest<M: Mix>()
 /// It doesn't say that nobody could reach these nodes; that is `safe`.
 ///
 /// A caller in no call has the batch that its last call left, whatever others have done since.
+///
+/// And each call that has ended and is no tidying leaves the nodes that wait, and the section words that are kept for
+/// them. The fresh nodes stay, in order; behind them comes the node that the call took out, exactly where the reply
+/// says that one was. It was in the list of the call's port by the words before one of the call's operations, and isn't
+/// by those behind it. So what waits is given back by tidyings alone, and none of it waits anew. It doesn't say whose
+/// node of the list it is.
 pub fn tidied<M: Mix>()
     ensures tidied { Tidied M M.mix_of }
     ensures rests { Rests M M.mix_of }
+    ensures kept { Kept M M.mix_of }
+{}
+
+/// In every run what a caller's calls took out goes with the nodes of its batch. A removal is a call that was answered
+/// `Released` or `Rebound`, and stands for the binding that it took out: its port and owner, of a rebind the old one.
+/// A caller's removals come behind each other as its calls do. A tidying takes what is due, or all that is fresh where
+/// nothing is: where it is answered `Clear` it hands that out, and where it is answered `Pending` that is due then.
+/// While the caller is in no call, as many removals are fresh as fresh nodes in its batch, and as many are due as nodes
+/// that wait. And a tidying that was answered `Clear` has handed out as many as it says.
+///
+/// Which these are goes by the replies of the caller's calls alone. What is handed out as bindings is of each removal
+/// that is handed out its binding. It doesn't say that nobody could come to what is
+/// handed out, which `grace` does.
+pub fn handed<M: Mix>()
+    ensures as_many { Handed M M.mix_of }
+    ensures out { HandsOut M M.mix_of }
+    ensures bindings { AreRemoved M M.mix_of }
+{}
+
+/// In every run, of a tidying that was answered `Clear`: a caller that is in its read section behind the tidying's last
+/// operation has opened it behind the end of each removal that the tidying hands out, as `handed` has it. Before that
+/// the caller's section word was even, and since then it is the same. So what such a caller has found in this section
+/// it found behind these removals, whatever it does with it.
+///
+/// It speaks of section words and not of what a caller could reach, which `safe` does. So it says nothing of who opens
+/// a section later, nor that a binding wasn't made again meanwhile, and not that a tidying is ever answered so.
+pub fn grace<M: Mix>()
+    ensures { Grace M M.mix_of }
 {}
 
 /// In every run a call that was refused has undone what it did; so has a bind that was answered `Exists`, and a
@@ -326,6 +362,19 @@ pub fn let_go<M: Mix>()
 pub fn sections<M: Mix>()
     ensures idle { Sections M M.mix_of }
     ensures own { OwnSections M M.mix_of }
+{}
+
+/// In every run no call but a tidying and a resizing operates on the section word of another caller, and these load it.
+/// So no other call waits for a section, also where it is in progress for good.
+///
+/// A resizing does so in two places. It took the work lock first, and has found that a table is retired; since then, of
+/// each caller before this one and in order, it has found that it has left that, and it has just loaded the word that
+/// is kept of this one in the slot, which is odd. Or it has retired a table, and since then has kept the section words
+/// of the callers before this one in the slot, and done nothing else. So it looks at each word once for a table.
+///
+/// It says nothing of locks, for which binds, releases and rebinds do wait, nor what a call makes of the words.
+pub fn awaited<M: Mix>()
+    ensures { Awaited M M.mix_of }
 {}
 
 /// In every run nothing is given back that a caller in its read section could reach, whoever gives it back: no node,

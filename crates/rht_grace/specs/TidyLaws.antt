@@ -28,12 +28,13 @@ tidying_ran batch olds =
 
 -- ---- what it gives back, and why it waits
 
--- the nodes that it is to give back, and those that it leaves fresh: where none waits it takes the fresh ones
-abbrev pub due_of : List ℕ → List ℕ → List ℕ
+-- What it is to give back, and what it leaves fresh: where none waits it takes the fresh ones. It goes by nothing else, so that what stands
+-- for the nodes, one each, moves with them.
+abbrev pub due_of : {A : Type 0} → List A → List A → List A
 due_of fresh [] = fresh
 due_of fresh (node ∷ nodes) = node ∷ nodes
 
-abbrev pub left_of : List ℕ → List ℕ → List ℕ
+abbrev pub left_of : {A : Type 0} → List A → List A → List A
 left_of fresh [] = []
 left_of fresh (node ∷ nodes) = fresh
 

@@ -11,11 +11,12 @@ use Rattle.rht_words.specs.Members.{In, NotIn, IsDistinct}
 use Rattle.rht_words.specs.Operations.{old_of, applied}
 use Rattle.rht_words.specs.declared.machine.Next.{Next}
 use Rattle.rht_words.specs.declared.machine.Next.TheVariants.{Go, Done}
-use Rattle.rht_words.proofs.Members.{not_in_from}
+use Rattle.rht_words.proofs.Members.{not_in_from, one_if}
 use Rattle.rht_model.specs.declared.history.Call.{Call}
 use Rattle.rht_model.specs.declared.history.Call.TheVariants.{Tidy}
 use Rattle.rht_model.specs.declared.history.Reply.{Reply}
 use Rattle.rht_model.specs.Answers.{Answer}
+use Rattle.rht_model.specs.Replies.{takes_out}
 use Rattle.rht_model.specs.Endings.{Ending, plain_ending}
 use Rattle.rht_grace.specs.Batch.{BatchModel}
 use Rattle.rht_grace.specs.Tidy.{TidyModel, IsTidyAtIn, after_at, moved}
@@ -23,7 +24,7 @@ use Rattle.rht_callers.specs.declared.local.Local.{Local}
 use Rattle.rht_callers.specs.declared.local.Doing.{Doing}
 use Rattle.rht_callers.specs.declared.local.Doing.TheVariants.{Tidying}
 use Rattle.rht_callers.specs.Batches.{nodes_in, nodes_held, IsBatchIn, IsSoundBatch, CanPut, with_out, out_of, batch_room, batch_beside, batch_given, batch_after}
-use Rattle.rht_callers.specs.Locals.{does_nothing, is_idle, machine_of, begin_with, doing_next, doing_after, local_after}
+use Rattle.rht_callers.specs.Locals.{does_nothing, is_idle, machine_of, begin_with, doing_next, doing_after, local_after, IsDoingOf}
 use Rattle.rht_callers.proofs.CallBeginnings.{begins_so}
 use Rattle.rht_callers.proofs.BatchesOfCallers.{idle-batch, begun-batch, begun-sound, batch_after-out, batch_after-sound, IsSoundBatch-out}
 use Rattle.rht_core.specs.Jobs.{Job, tidies, tidying, tidied, call_of, job_of, job_next, job_after, told, held_of, held_next}
@@ -40,7 +41,7 @@ use Rattle.rht_core.proofs.Events.JobsOfCallers.{first_job-machine, first_unknow
 use Rattle.rht_core.proofs.Events.RangesInRuns.{AllIn}
 use Rattle.rht_core.proofs.Events.SoundRuns.{made_in}
 use Rattle.rht_core.proofs.Events.SaidOfNodes.{outs_with, many_of, SaysTaken, AnsweredWith, left-says, ended_says, longer, first-says, outs-idle, untaken-idle}
-use Rattle.rht_core.proofs.Events.TakenOut.{taken_with, taken_of, first_untaken, taken_known, taken_then, hands_out, goes_none}
+use Rattle.rht_core.proofs.Events.TakenOut.{taken_with, taken_of, first_untaken, taken_known, taken_then, untaken-bound, hands_out, goes_none}
 use Rattle.rht_core.proofs.Events.BusyCallers.{ends}
 use Rattle.rht_core.proofs.Events.Worlds.{beginning-some}
 use Rattle.rht_core.proofs.Returning.GoneBack.{owners_stay}
@@ -87,7 +88,7 @@ is_tidying L (Tidying m) = inl (m, refl)
 is_tidying L _ = inr (λ m is. cc)
 
 -- who isn't tidying has its batch
-with_caller : (L : Type 0) (doing : Doing L) (batch : Option BatchModel) → ((m : TidyModel) → doing ≡ Tidying m → ⊥)
+pub with_caller : (L : Type 0) (doing : Doing L) (batch : Option BatchModel) → ((m : TidyModel) → doing ≡ Tidying m → ⊥)
     → batch_room doing batch ≡ batch
 with_caller L (Tidying m) batch not = absurd (not m refl)
 with_caller L _ batch not = refl
@@ -188,6 +189,43 @@ module _ (env : Env) (mix : ℕ → ℕ → ℕ → ℕ) (L : Type 0) where
             );
       }
 
+  -- ---- the answer of a call, and the node that it hands out
+
+  module _ (core : Core L) (G : Ghost) (c : ℕ) (op : Op) (of : StepOf env mix L core G c op) (right : BatchRight G c (local_of core c)) where
+    abbrev then : Job × Next Ending
+    then = job_after mix env of.job (old_of core.words op)
+
+    said : AnsweredWith (Some of.job)
+    said = subst AnsweredWith of.is right.answered
+
+    replied_then : IfSome (held_next then).answer (IsReplied (call_of of.job))
+    replied_then =
+        known_so env.config.kind c (call_of of.job) (IsReplied (call_of of.job)) (IsReplied-same (call_of of.job)) _ _ _ _
+        (held_of of.job).answer (held_next then).answer of.step.says
+        (λ answer unknown known. (of.step.right answer unknown known).replied) said.0
+
+    -- a call that ends hands out a node exactly where its reply says that it has taken one out
+    pub out_said : IsDoingOf env (local_of core c).doing → (reply : Reply)
+        → (doing_after mix (local_of core c).doing (old_of core.words op)).1 ≡ Some reply
+        → one_if (takes_out reply) ≡ many_of (out_of mix (local_of core c).doing (old_of core.words op))
+    out_said table reply is =
+        go then refl (doing_after-reply mix env (local_of core c).doing of.job (old_of core.words op) table of.is)
+      where
+        go : (next : Job × Next Ending) → then ≡ next
+            → (doing_after mix (local_of core c).doing (old_of core.words op)).1 ≡ option_map (λ (e : Ending). e.answer.reply) (told then).1
+            → one_if (takes_out reply) ≡ many_of (out_of mix (local_of core c).doing (old_of core.words op))
+        go (after, Go) same replied =
+            let none : ◌≡◌ {A = Option Reply} (Some reply) None =
+            sym is ∙ replied ∙ ap (λ n. option_map (λ (e : Ending). e.answer.reply) (told n).1) same in
+            absurd (cc)
+        go (after, Done ending) same replied =
+            let both : ◌≡◌ {A = Option Reply} (Some reply) (Some ending.answer.reply) =
+            sym is ∙ replied ∙ ap (λ n. option_map (λ (e : Ending). e.answer.reply) (told n).1) same in
+            let one : reply ≡ ending.answer.reply = cc in
+            ap (λ r. one_if (takes_out r)) one
+            ∙ ended_says mix env (local_of core c).doing of.job (old_of core.words op) ending of.is said.1 (ap (λ n. (told n).1) same)
+            (subst (λ (n : Job × Next Ending). IfSome (held_next n).answer (IsReplied (call_of of.job))) same replied_then)
+
   -- ---- an operation
 
   module _ (core : Core L) (G : Ghost) (all : AllIn L mix env core) (whole : Whole env mix (mem env mix core.words) G) (c : ℕ) (op : Op)
@@ -225,13 +263,10 @@ module _ (env : Env) (mix : ℕ → ℕ → ℕ → ℕ) (L : Type 0) where
     -- ---- the answer
 
     says : AnsweredWith (Some of.job)
-    says = subst AnsweredWith of.is right.answered
+    says = said core G c op of right
 
     replied_now : IfSome (held_next next_job).answer (IsReplied (call_of of.job))
-    replied_now =
-        known_so env.config.kind c (call_of of.job) (IsReplied (call_of of.job)) (IsReplied-same (call_of of.job)) _ _ _ _
-        (held_of of.job).answer (held_next next_job).answer of.step.says
-        (λ answer unknown known. (of.step.right answer unknown known).replied) says.0
+    replied_now = replied_then core G c op of right
 
     answered_now : AnsweredWith (told next_job).0
     answered_now = go next_job (same_call mix env of.job old) replied_now (left-says mix env of.job old says.1)
@@ -303,8 +338,9 @@ module _ (env : Env) (mix : ℕ → ℕ → ℕ → ℕ) (L : Type 0) where
           subst (Lacks n) (sym (after_is ∙ ap (with_out local.batch) (goes_none mix local.doing old goes) ∙ none-out local.batch ∙ sym beside))
           (elim (taken_then env mix c (mem env mix core.words) G whole n of.job of.knows old taken) [
             | inl was ↦ right.apart n (ap taken_with of.is ∙ was)
-            | inr untaken ↦ not_in_from n (nodes_in (batch_of local))
-                (λ there. untaken (right.out n (subst (In n) (sym held_is) there)))
+            | inr now ↦ not_in_from n (nodes_in (batch_of local))
+                (λ there. untaken-bound env mix c (mem env mix core.words) G whole now.port (G.bound now.port) refl n now.bound
+                (right.out n (subst (In n) (sym held_is) there)))
           ])
         where
           none-out : (batch : Option BatchModel) → with_out batch None ≡ batch

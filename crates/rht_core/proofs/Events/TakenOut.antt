@@ -1,6 +1,6 @@
 -- The node that a call has taken out of a port's list, by its state. Its caller knows that it has taken it out; and where the state has it only
 -- behind an operation, the caller hadn't taken it out before. It is the one that the call hands out as it ends.
-use Rattle.std.proofs.Common.{◌≡◌, ℕ, Bool, true, false, Option, Some, None, List, ◌∷◌, ◌⊎◌, refl, sym, ap, ◌∙◌, subst, inl, inr}
+use Rattle.std.proofs.Common.{◌≡◌, ℕ, Bool, true, false, Option, Some, None, List, [], ◌∷◌, ◌⊎◌, refl, sym, ap, ◌∙◌, subst, inl, inr}
 use Rattle.std.specs.Prelude.{if◌then◌else◌, IfSome}
 use Rattle.rht_words.specs.declared.env.Env.{Env}
 use Rattle.rht_words.specs.declared.geometry.Geometry.{Geometry}
@@ -41,7 +41,8 @@ use Rattle.rht_release.specs.declared.rebind.RebindAt.TheVariants as rebinding
 use Rattle.rht_release.specs.declared.rebind.RebindEnd.{RebindEnd}
 use Rattle.rht_release.specs.declared.rebind.RebindEnd.TheVariants as ends
 use Rattle.rht_grace.specs.Batch.{BatchModel}
-use Rattle.rht_core.specs.Jobs.{Job, finds, binds, lists, releases, rebinds, works, tidies, walks, counts, first_job, job_next, job_after, job_of, listing_ending, node_ending, walk_ending, walk_gone, told, tidying, tidied, IsFirstJob}
+use Rattle.rht_core.specs.Tidied.{RemovesAt}
+use Rattle.rht_core.specs.Jobs.{Job, finds, binds, lists, releases, rebinds, works, tidies, walks, counts, call_of, first_job, job_next, job_after, job_of, listing_ending, node_ending, walk_ending, walk_gone, told, tidying, tidied, IsFirstJob}
 use Rattle.rht_ghost.proofs.Theory.Ghosts.{Ghost, Taken, Behind, seat_of, taken_is}
 use Rattle.rht_ghost.proofs.Theory.Wholes.{Whole}
 use Rattle.rht_ghost.proofs.Theory.Knowns.{KnownList, IsOwnersNode}
@@ -127,6 +128,11 @@ module _ (env : Env) (mix : ℕ → ℕ → ℕ → ℕ) (c : ℕ) where
       let to = whole.owned.bound_to port first behind bound in
       let both : Behind port ≡ Taken c = sym (to.each n there) ∙ taken in cc
 
+  pub untaken-bound : (M : Memory) (G : Ghost) → Whole env mix M G → (port : ℕ) (bound : List ℕ) → G.bound port ≡ bound
+      → (n : ℕ) → In n bound → G.node n ≡ Taken c → ⊥
+  untaken-bound M G whole port [] is n there taken = absurd there
+  untaken-bound M G whole port (first ∷ behind) is n there taken = bound-untaken M G whole port first behind is n there taken
+
   -- ---- what the caller knows of it
 
   when-so : (taken : Bool) (node n : ℕ) → when taken node ≡ Some n → (taken ≡ true) × (node ≡ n)
@@ -141,28 +147,28 @@ module _ (env : Env) (mix : ℕ → ℕ → ℕ → ℕ) (c : ℕ) where
   release_relinking : (port owner : ℕ) (h : Holding) (M : Memory) (G : Ghost) → Whole env mix M G
       → (found : FoundPort) (known : KnownList) (stored : Bool)
       → Knowing env mix c h (known_relinking port owner found known stored) M G
-      → ((stored ≡ true) × (G.node found.node ≡ Taken c)) ⊎ ((stored ≡ false) × (G.node found.node ≡ Taken c → ⊥))
+      → ((stored ≡ true) × (G.node found.node ≡ Taken c)) ⊎ ((stored ≡ false) × In found.node (G.bound port))
   release_relinking port owner h M G whole found known true k =
       inl (refl, taken_is c (G.node found.node) k.means.bucket.took.taken)
   release_relinking port owner h M G whole found known false k =
-      let is = k.means.bucket in inr (refl, bound-untaken M G whole port found.node is.behind is.bound_to found.node (inl refl))
+      let is = k.means.bucket in inr (refl, subst (In found.node) (sym is.bound_to) (inl refl))
 
   rebind_relinking : (port owner new node : ℕ) (h : Holding) (M : Memory) (G : Ghost) → Whole env mix M G
       → (found : FoundPort) (stored : Bool)
       → Knowing env mix c h (known_replacing port owner new node found stored) M G
-      → ((stored ≡ true) × (G.node found.node ≡ Taken c)) ⊎ ((stored ≡ false) × (G.node found.node ≡ Taken c → ⊥))
+      → ((stored ≡ true) × (G.node found.node ≡ Taken c)) ⊎ ((stored ≡ false) × In found.node (G.bound port))
   rebind_relinking port owner new node h M G whole found true k =
       inl (refl, taken_is c (G.node found.node) k.means.bucket.took.taken)
   rebind_relinking port owner new node h M G whole found false k =
-      let is = k.means.bucket in inr (refl, bound-untaken M G whole port found.node is.behind is.bound_to found.node (inl refl))
+      let is = k.means.bucket in inr (refl, subst (In found.node) (sym is.bound_to) (inl refl))
 
   module _ (M : Memory) (G : Ghost) (whole : Whole env mix M G) (n : ℕ) where
     -- the caller has taken out the node that its state has
-    by_store : (node : ℕ) (stored : Bool)
-        → ((stored ≡ true) × (G.node node ≡ Taken c)) ⊎ ((stored ≡ false) × (G.node node ≡ Taken c → ⊥))
+    by_store : (port node : ℕ) (stored : Bool)
+        → ((stored ≡ true) × (G.node node ≡ Taken c)) ⊎ ((stored ≡ false) × In node (G.bound port))
         → when stored node ≡ Some n → G.node n ≡ Taken c
-    by_store node stored (inl (on, taken)) is = ap G.node (sym (when-so stored node n is).1) ∙ taken
-    by_store node stored (inr (off, untaken)) is = absurd (when-other stored node n off is)
+    by_store port node stored (inl (on, taken)) is = ap G.node (sym (when-so stored node n is).1) ∙ taken
+    by_store port node stored (inr (off, bound)) is = absurd (when-other stored node n off is)
 
     some-node : (node : ℕ) → Some node ≡ Some n → node ≡ n
     some-node node is = cc
@@ -170,10 +176,10 @@ module _ (env : Env) (mix : ℕ → ℕ → ℕ → ℕ) (c : ℕ) where
     release_taken : (port owner : ℕ) (h : Holding) (state : ReleaseAt) → Knowing env mix c h (known_of_release port owner state) M G
         → taken_at_release state ≡ Some n → G.node n ≡ Taken c
     release_taken port owner h (releasing.Promoting found relink) k is =
-        by_store found.node (has_relinked found.before relink.at)
+        by_store port found.node (has_relinked found.before relink.at)
         (release_relinking port owner h M G whole found _ (has_relinked found.before relink.at) k) is
     release_taken port owner h (releasing.Unlinking found relink) k is =
-        by_store found.node (has_relinked found.before relink.at)
+        by_store port found.node (has_relinked found.before relink.at)
         (release_relinking port owner h M G whole found _ (has_relinked found.before relink.at) k) is
     release_taken port owner h (releasing.Lowering node shape) k is =
         ap G.node (sym (some-node node is)) ∙ taken_is c (G.node node) k.means.bucket.taken
@@ -186,7 +192,7 @@ module _ (env : Env) (mix : ℕ → ℕ → ℕ → ℕ) (c : ℕ) where
     rebind_taken : (port owner new : ℕ) (h : Holding) (state : RebindAt) → Knowing env mix c h (known_of_rebind port owner new state) M G
         → taken_at_rebind state ≡ Some n → G.node n ≡ Taken c
     rebind_taken port owner new h (rebinding.Replacing node found relink) k is =
-        by_store found.node (has_relinked found.before relink.at)
+        by_store port found.node (has_relinked found.before relink.at)
         (rebind_relinking port owner new node h M G whole found (has_relinked found.before relink.at) k) is
     rebind_taken port owner new h (rebinding.Unlocking table unlock (ends.Rebound removed)) k is =
         ap G.node (sym (some-node removed is)) ∙ taken_is c (G.node removed) k.means.bucket.took.taken
@@ -201,27 +207,24 @@ module _ (env : Env) (mix : ℕ → ℕ → ℕ → ℕ) (c : ℕ) where
 
     -- ---- behind an operation
 
-    -- the state had it before, or the caller hadn't taken it out
-    abbrev pub WasOrNot : Option ℕ → Type 0
-    WasOrNot was = (was ≡ Some n) ⊎ (G.node n ≡ Taken c → ⊥)
+    -- the state had it before, or it was in the list of this port
+    abbrev pub WasOrBound : ℕ → Option ℕ → Type 0
+    WasOrBound port was = (was ≡ Some n) ⊎ In n (G.bound port)
 
     -- the store that takes it out is made now, or was before
-    stored_now : (node : ℕ) (stored : Bool)
-        → ((stored ≡ true) × (G.node node ≡ Taken c)) ⊎ ((stored ≡ false) × (G.node node ≡ Taken c → ⊥))
-        → node ≡ n → WasOrNot (when stored node)
-    stored_now node stored (inl (on, taken)) same = inl (rw on (ap Some same))
-    stored_now node stored (inr (off, untaken)) same = inr (λ taken. untaken (ap G.node same ∙ taken))
+    stored_now : (port node : ℕ) (stored : Bool)
+        → ((stored ≡ true) × (G.node node ≡ Taken c)) ⊎ ((stored ≡ false) × In node (G.bound port))
+        → node ≡ n → WasOrBound port (when stored node)
+    stored_now port node stored (inl (on, taken)) same = inl (rw on (ap Some same))
+    stored_now port node stored (inr (off, bound)) same = inr (subst (λ m. In m (G.bound port)) same bound)
 
-    -- a node of the port's list wasn't taken out
-    listed-untaken : (port owner first : ℕ) (behind : List ℕ) → G.bound port ≡ first ∷ behind → (node : ℕ) (before : Option ℕ)
-        → IsOwnersNode M (first ∷ behind) node before owner → node ≡ n → G.node n ≡ Taken c → ⊥
-    listed-untaken port owner first behind bound node before is same taken =
+    -- a node behind another one is in the port's list
+    listed-bound : (port owner first : ℕ) (behind : List ℕ) → G.bound port ≡ first ∷ behind → (node : ℕ) (before : Option ℕ)
+        → IsOwnersNode M (first ∷ behind) node before owner → node ≡ n → In n (G.bound port)
+    listed-bound port owner first behind bound node before is same =
         let among = is.stands.among in
         let there : In node (first ∷ behind) = subst (In node) (sym among.split) (in-middle node among.front among.rear) in
-        bound-untaken M G whole port first behind bound node there (ap G.node same ∙ taken)
-
-    none-some : (was : Option ℕ) → None ≡ Some n → WasOrNot was
-    none-some was is = absurd (cc)
+        subst (λ m. In m (G.bound port)) same (subst (In node) (sym bound) there)
 
     release_sought : (seek : SeekModel) (next : Next (Option FoundPort)) → taken_at_release (release.sought seek next) ≡ None
     release_sought seek Go = refl
@@ -257,32 +260,32 @@ module _ (env : Env) (mix : ℕ → ℕ → ℕ → ℕ) (c : ℕ) where
     release_unlinked found relink Go is = (when-so (has_relinked found.before relink.at) found.node n is).1
     release_unlinked found relink (Done done) is = cc
 
-    from_none : (now was : Option ℕ) → now ≡ None → now ≡ Some n → WasOrNot was
-    from_none now was none is = absurd (let both : None ≡ Some n = sym none ∙ is in cc)
+    from_none : (port : ℕ) (now was : Option ℕ) → now ≡ None → now ≡ Some n → WasOrBound port was
+    from_none port now was none is = absurd (let both : None ≡ Some n = sym none ∙ is in cc)
 
     release_then : (port owner : ℕ) (h : Holding) (state : ReleaseAt) (old : ℕ) → Knowing env mix c h (known_of_release port owner state) M G
-        → taken_at_release (release.after_at mix env port owner state old).0 ≡ Some n → WasOrNot (taken_at_release state)
+        → taken_at_release (release.after_at mix env port owner state old).0 ≡ Some n → WasOrBound port (taken_at_release state)
     release_then port owner h releasing.Opening old k is = absurd (cc)
     release_then port owner h (releasing.Seeking seek) old k is =
-        from_none _ None (release_sought (seek_after mix port seek old).0 (seek_after mix port seek old).1) is
+        from_none port _ None (release_sought (seek_after mix port seek old).0 (seek_after mix port seek old).1) is
     release_then port owner h (releasing.Searching found search) old k is =
-        let next = search_after env.geometry owner search old in from_none _ None (release_searched found next.0 next.1) is
+        let next = search_after env.geometry owner search old in from_none port _ None (release_searched found next.0 next.1) is
     release_then port owner h (releasing.LinkBehind found node before) old k is =
-        from_none _ None (release_cut env.geometry found node old before) is
+        from_none port _ None (release_cut env.geometry found node old before) is
     release_then port owner h (releasing.CuttingOut found node before link) old k is =
         let in_list = k.means.bucket in
         let same : node ≡ n = cc in
-        inr (listed-untaken port owner found.node in_list.behind in_list.bound_to node (Some before) in_list.means.is same)
+        inr (listed-bound port owner found.node in_list.behind in_list.bound_to node (Some before) in_list.means.is same)
     release_then port owner h (releasing.ChainLink found second) old k is =
-        from_none _ None (release_unlink env.geometry found old second) is
+        from_none port _ None (release_unlink env.geometry found old second) is
     release_then port owner h (releasing.SecondLink found second link) old k is =
-        from_none _ None (release_begun env.geometry found (link_of second)) is
+        from_none port _ None (release_begun env.geometry found (link_of second)) is
     release_then port owner h (releasing.Promoting found relink) old k is =
-        stored_now found.node (has_relinked found.before relink.at)
+        stored_now port found.node (has_relinked found.before relink.at)
         (release_relinking port owner h M G whole found _ (has_relinked found.before relink.at) k)
         (release_promoted found (relink_after relink).0 (relink_after relink).1 is)
     release_then port owner h (releasing.Unlinking found relink) old k is =
-        stored_now found.node (has_relinked found.before relink.at)
+        stored_now port found.node (has_relinked found.before relink.at)
         (release_relinking port owner h M G whole found _ (has_relinked found.before relink.at) k)
         (release_unlinked found (relink_after relink).0 (relink_after relink).1 is)
     release_then port owner h (releasing.Lowering node shape) old k is = inl is
@@ -316,26 +319,26 @@ module _ (env : Env) (mix : ℕ → ℕ → ℕ → ℕ) (c : ℕ) where
     rebind_replaced node found relink (Done done) is = cc
 
     rebind_then : (port owner new : ℕ) (h : Holding) (state : RebindAt) (old : ℕ) → Knowing env mix c h (known_of_rebind port owner new state) M G
-        → taken_at_rebind (rebind.after_at mix env port owner state old).0 ≡ Some n → WasOrNot (taken_at_rebind state)
+        → taken_at_rebind (rebind.after_at mix env port owner state old).0 ≡ Some n → WasOrBound port (taken_at_rebind state)
     rebind_then port owner new h (rebinding.Filling fresh) old k is =
-        from_none _ None (rebind_filled (new_node_after fresh old).0 (new_node_after fresh old).1) is
+        from_none port _ None (rebind_filled (new_node_after fresh old).0 (new_node_after fresh old).1) is
     rebind_then port owner new h (rebinding.Opening node) old k is = absurd (cc)
     rebind_then port owner new h (rebinding.Seeking node seek) old k is =
-        from_none _ None (rebind_sought node (seek_after mix port seek old).0 (seek_after mix port seek old).1) is
+        from_none port _ None (rebind_sought node (seek_after mix port seek old).0 (seek_after mix port seek old).1) is
     rebind_then port owner new h (rebinding.Searching node found search) old k is =
-        let next = search_after env.geometry owner search old in from_none _ None (rebind_searched node found next.0 next.1) is
+        let next = search_after env.geometry owner search old in from_none port _ None (rebind_searched node found next.0 next.1) is
     rebind_then port owner new h (rebinding.LinkBehind node found removed before) old k is = absurd (cc)
     rebind_then port owner new h (rebinding.OwnListLink node found removed before link) old k is =
-        from_none _ None (rebind_swapped node found removed before) is
+        from_none port _ None (rebind_swapped node found removed before) is
     rebind_then port owner new h (rebinding.Swapping node found removed before) old k is =
         let in_list = k.means.bucket in
         let same : removed ≡ n = cc in
-        inr (listed-untaken port owner found.node in_list.behind in_list.bound_to removed (Some before) in_list.means.is same)
+        inr (listed-bound port owner found.node in_list.behind in_list.bound_to removed (Some before) in_list.means.is same)
     rebind_then port owner new h (rebinding.ChainLink node found) old k is = absurd (cc)
     rebind_then port owner new h (rebinding.Link node found link) old k is =
-        from_none _ None (release_begun env.geometry found (link_of node)) is
+        from_none port _ None (release_begun env.geometry found (link_of node)) is
     rebind_then port owner new h (rebinding.Replacing node found relink) old k is =
-        stored_now found.node (has_relinked found.before relink.at)
+        stored_now port found.node (has_relinked found.before relink.at)
         (rebind_relinking port owner new node h M G whole found (has_relinked found.before relink.at) k)
         (rebind_replaced node found (relink_after relink).0 (relink_after relink).1 is)
     rebind_then port owner new h (rebinding.Unlocking table unlock end) old k is = inl is
@@ -344,11 +347,27 @@ module _ (env : Env) (mix : ℕ → ℕ → ℕ → ℕ) (c : ℕ) where
     rebind_then port owner new h (rebinding.Giving give) old k is = absurd (cc)
 
     -- what is left of the job
-    left_then : {S A : Type 0} (job : S → Job) (ending : A → Ending) (was : Option ℕ) (r : S × Next A)
-        → (taken_of (job r.0) ≡ Some n → WasOrNot was)
-        → taken_with (told (job_next job ending r)).0 ≡ Some n → WasOrNot was
-    left_then job ending was (state, Go) next is = next is
-    left_then job ending was (state, Done end) next is = absurd (cc)
+    left_then : {S A : Type 0} (job : S → Job) (ending : A → Ending) (port : ℕ) (was : Option ℕ) (r : S × Next A)
+        → (taken_of (job r.0) ≡ Some n → WasOrBound port was)
+        → taken_with (told (job_next job ending r)).0 ≡ Some n → WasOrBound port was
+    left_then job ending port was (state, Go) next is = next is
+    left_then job ending port was (state, Done end) next is = absurd (cc)
+
+    -- it was in the list of the port at which the call takes a binding out
+    pub record IsBoundFor (call : Call) : Type 0 where
+      pub port : ℕ
+      pub removes : RemovesAt call port
+      pub bound : In n (G.bound port)
+
+    abbrev pub WasOrNow : Job → Type 0
+    WasOrNow job = (taken_of job ≡ Some n) ⊎ IsBoundFor (call_of job)
+
+    at_port : (port : ℕ) (job : Job) → RemovesAt (call_of job) port → WasOrBound port (taken_of job) → WasOrNow job
+    at_port port job removes (inl was) = inl was
+    at_port port job removes (inr bound) = inr record { port = port; removes = removes; bound = bound }
+
+    no_node : (job : Job) (now : Option ℕ) → now ≡ None → now ≡ Some n → WasOrNow job
+    no_node job now none is = absurd (let both : None ≡ Some n = sym none ∙ is in cc)
 
     left-none : {S A : Type 0} (job : S → Job) (ending : A → Ending) (r : S × Next A)
         → ((state : S) → taken_of (job state) ≡ None) → taken_with (told (job_next job ending r)).0 ≡ None
@@ -356,27 +375,29 @@ module _ (env : Env) (mix : ℕ → ℕ → ℕ → ℕ) (c : ℕ) where
     left-none job ending (state, Done end) none = refl
 
     pub taken_then : (job : Job) → JobKnows env mix c job M G → (old : ℕ)
-        → taken_with (told (job_after mix env job old)).0 ≡ Some n → WasOrNot (taken_of job)
+        → taken_with (told (job_after mix env job old)).0 ≡ Some n → WasOrNow job
     taken_then (releases port owner state) knows old is =
-        left_then (releases port owner) node_ending (taken_at_release state) (release.after_at mix env port owner state old)
-        (release_then port owner _ state old knows.knowing) is
+        at_port port (releases port owner state) refl
+        (left_then (releases port owner) node_ending port (taken_at_release state) (release.after_at mix env port owner state old)
+        (release_then port owner _ state old knows.knowing) is)
     taken_then (rebinds port owner new state) knows old is =
-        left_then (rebinds port owner new) node_ending (taken_at_rebind state) (rebind.after_at mix env port owner state old)
-        (rebind_then port owner new _ state old knows.knowing) is
+        at_port port (rebinds port owner new state) refl
+        (left_then (rebinds port owner new) node_ending port (taken_at_rebind state) (rebind.after_at mix env port owner state old)
+        (rebind_then port owner new _ state old knows.knowing) is)
     taken_then (finds port state) knows old is =
-        from_none _ None (left-none (finds port) plain_ending (find.after_at mix env port state old) (λ s. refl)) is
+        no_node (finds port state) _ (left-none (finds port) plain_ending (find.after_at mix env port state old) (λ s. refl)) is
     taken_then (binds port owner once state) knows old is =
-        from_none _ None (left-none (binds port owner once) plain_ending (bind.after_at mix env port once state old) (λ s. refl)) is
+        no_node (binds port owner once state) _ (left-none (binds port owner once) plain_ending (bind.after_at mix env port once state old) (λ s. refl)) is
     taken_then (lists port room state) knows old is =
         let after = all.room_after state room old in
-        from_none _ None (left-none (lists port after) (listing_ending after) (all.after_at mix env port state old) (λ s. refl)) is
+        no_node (lists port room state) _ (left-none (lists port after) (listing_ending after) (all.after_at mix env port state old) (λ s. refl)) is
     taken_then (works state) knows old is =
-        from_none _ None (left-none works plain_ending (work.after_at mix env state old) (λ s. refl)) is
+        no_node (works state) _ (left-none works plain_ending (work.after_at mix env state old) (λ s. refl)) is
     taken_then (tidies batch state) knows old is =
-        from_none _ None (left-none tidying plain_ending (tidied (tidy.after_at env.geometry batch state old)) (λ s. refl)) is
+        no_node (tidies batch state) _ (left-none tidying plain_ending (tidied (tidy.after_at env.geometry batch state old)) (λ s. refl)) is
     taken_then (walks from limit room state) knows old is =
         let after = walk.room_after state room old in
-        from_none _ None (left-none (walks from limit after) (walk_ending after) (walk_gone env from limit room after state old) (λ s. refl)) is
+        no_node (walks from limit room state) _ (left-none (walks from limit after) (walk_ending after) (walk_gone env from limit room after state old) (λ s. refl)) is
     taken_then counts knows old is = absurd (cc)
 
 -- ---- the node that a call hands out

@@ -20,7 +20,7 @@ use Rattle.rht_core.specs.Jobs.{Job, works, job_after, held_of, held_next}
 use Rattle.rht_core.specs.Runs.{IsAdmitted}
 use Rattle.rht_core.specs.Traces.{Did, performed_of}
 use Rattle.rht_core.specs.Seen.{words_before}
-use Rattle.rht_core.specs.Attached.{ChangesState, StoresRetired, RetiresSlot, HasKeptSections, KeepsWhereRetired, KeepsAtRetiring}
+use Rattle.rht_core.specs.Attached.{ChangesState, RetiresSlot, HasKeptSections, KeepsWhereRetired, KeepsAtRetiring}
 use Rattle.rht_ghost.proofs.Theory.Steps.{mem}
 use Rattle.rht_core.proofs.Tracing.TracedJobs.{Performs, StandsIn, LeadsOn, IsEndedSo, jobs_keep_own}
 use Rattle.rht_core.proofs.Histories.Behind.{Any-push_cases, Any-none}
@@ -52,7 +52,7 @@ module _ (M : Type 0) (mix : ℕ → ℕ → ℕ → ℕ) (env : Env) (events : 
     at : Did
     keeping : List Did
     split : steps ≡ before ++ at ∷ keeping
-    retires : StoresRetired g slot at
+    retires : RetiresSlot g slot at
     kept : SectionsKept g slot (map performed_of keeping)
 
   SoFar : Job → List Did → Type 0
@@ -146,7 +146,7 @@ module _ (M : Type 0) (mix : ℕ → ℕ → ℕ → ℕ) (env : Env) (events : 
       at = so_far.at;
       keeping = so_far.since ++ did ∷ [];
       split = ap (λ l. l ++ did ∷ []) so_far.split ∙ append_assoc so_far.sooner (so_far.at ∷ so_far.since) (did ∷ []);
-      retires = subst (λ s. StoresRetired g s so_far.at) (kept slot low has) so_far.retires;
+      retires = subst (λ s. RetiresSlot g s so_far.at) (kept slot low has) so_far.retires;
       kept =
           subst (λ s. SectionsKept g s (map performed_of (so_far.since ++ did ∷ []))) (kept slot low has)
           (keeps-end g keep performs.within steps did performs.planned so_far is);

@@ -42,10 +42,11 @@ use Rattle.rht_move.specs.LastEntry.{last_entry_after}
 use Rattle.rht_move.specs.Work.{after_at, closed, entry_table_seen, with_word, reply_of, kept}
 use Rattle.rht_core.specs.Jobs.{works}
 use Rattle.rht_core.specs.Traces.{Did, performed_of}
+use Rattle.rht_core.specs.Attached.{RetiresSlot}
 use Rattle.rht_core.specs.ResizeCauses.{FindsSlotsTaken, AreSlotsTaken, AreRunsTaken}
 use Rattle.rht_core.specs.Seen.{TurnsSection}
 use Rattle.rht_core.specs.WorkCauses.{StoresOther, SawNoTableDue}
-use Rattle.rht_ghost.proofs.Theory.Ghosts.{index_at}
+use Rattle.rht_ghost.proofs.Theory.Ghosts.{index_at, state_word}
 use Rattle.rht_ghost.proofs.Theory.Wholes.{force-there, current-there, current-at, one_table}
 use Rattle.rht_ghost.proofs.Theory.Steps.{mem}
 use Rattle.rht_ghost.proofs.Theory.Knowns.{Onward, Rooted}
@@ -91,6 +92,16 @@ module _ (env : Env) (mix : ℕ → ℕ → ℕ → ℕ) where
       subst (λ shape. is_nested shape ≡ true → size_of (unpacked shape) ≤ 2 ^ 17) (sym found)
       (nested_size env mix does.caller (mem env mix does.words) does.ghost does.whole slot
       does.knows.knowing.means.work.more.aim_is.at)
+
+  -- a table that is retired wasn't retired before
+  retires-new : (root : ℕ) (again : Bool) (did : Did) → Performs mix env (works (at.Retiring root again)) did
+      → RetiresSlot env.geometry root did
+  retires-new root again did does =
+      let found : did.old ≡ mem env mix does.words (Slot root StateWord) =
+      does.found ∙ ap (old_of does.words) does.planned in
+      let one : did.old ≡ 1 =
+      found ∙ does.whole.slots.states root does.within ∙ ap state_word does.knows.knowing.means.work.more.live in
+      record { stores = does.planned; other = λ two. absurd (omega (arith, one, two)) }
 
   -- nor is the next one the current one itself
   other_future : (root : ℕ) (due : Due) (did : Did) → Performs mix env (works (at.RootFuture root due)) did
@@ -384,7 +395,7 @@ module _ (env : Env) (c : ℕ) (words_at : ℕ → List ℕ) where
       does.planned refl saw
   work-saw mix (at.Retiring root again) steps did does own here saw = (
     stored-saw env c again (Slot root StateWord) 2 steps did (does.within, tt) (λ e. cc) does.planned saw.0,
-    keeps-begin env.geometry root steps did does.planned,
+    keeps-begin env.geometry root steps did (retires-new env mix root again did does),
   )
   work-saw mix (at.KeepingSections keep again) steps did does own here saw =
       kept-saw keep again steps did does.within does.planned saw

@@ -31,6 +31,7 @@ use Rattle.rht_reclaim.specs.ReturnTables.{ReturnTablesModel, IsReturnTablesIn}
 use Rattle.rht_core.specs.declared.event.Event.{Event}
 use Rattle.rht_core.specs.Jobs.{Job, finds, binds, lists, releases, rebinds, works, tidies, walks, counts, job_of, job_plan, held_of}
 use Rattle.rht_core.specs.Reach.{Thing, TableIn, PageAt, NodeAt, CouldReach, ReachesPage, at_table, at_node, at_listed, in_chain, IsReading, IsOwnNode, IsOwnSlot, IsWithin, MayTakeDown, LoadsRetiredShape, WithdrawsEntry, Inside}
+use Rattle.rht_core.specs.Laws.{IsRecorded}
 use Rattle.rht_core.specs.Runs.{Core, World, local_of, run_of, IsAdmitted, IsAdmittedEvent}
 use Rattle.rht_core.specs.Sections.{IsInNoSection}
 use Rattle.rht_core.specs.Standings.{standing, standing_of, standing_with}
@@ -48,14 +49,14 @@ use Rattle.rht_ghost.proofs.Theory.Knowledge.{IsOverAt, outside-none}
 use Rattle.rht_ghost.proofs.Theory.Steps.{mem}
 use Rattle.rht_ghost.proofs.Theory.Wholes.{Whole, IsTurned}
 use Rattle.rht_core.proofs.Returning.MetInRuns.{Met, has_met, comes_next, open_now, outside_now, outside_next}
-use Rattle.rht_core.proofs.Returning.Operating.{PageThere, Lies, May}
+use Rattle.rht_core.proofs.Returning.Operating.{PageThere, Lies, Allowed, nothing_own, May}
 use Rattle.rht_core.proofs.Returning.OperatingBinds.{bind_lies}
 use Rattle.rht_walk.specs.Walk as walk
 use Rattle.rht_core.proofs.Returning.WalkWays.{walk_lies}
 use Rattle.rht_core.proofs.Returning.OperatingFinds.{find_lies}
 use Rattle.rht_core.proofs.Returning.OperatingReleases.{all_lies, release_lies, rebind_lies}
-use Rattle.rht_core.proofs.Returning.OperatingWays.{OwnOf}
-use Rattle.rht_core.proofs.Returning.OperatingWorks.{work_lies}
+use Rattle.rht_core.proofs.Returning.OperatingWays.{AllowedOf}
+use Rattle.rht_core.proofs.Returning.OperatingWorks.{near_of_work, work_lies}
 use Rattle.rht_core.proofs.Returning.OperatingReturns.{LoadsShape, TakesEntry, return_lies}
 use Rattle.rht_core.proofs.Returning.TiedWorks.{tied_of_returning, tied_of_work}
 use Rattle.rht_core.proofs.Returning.TiedJobs.{tied_of, tied_with}
@@ -84,7 +85,19 @@ table_word SerialWord is = tt
 table_word StateWord is = tt
 table_word (LoadedSection caller) is = absurd is
 
+-- whose section word a call may look at: each one, where it tidies; where it works, as that says; else its own caller's
+abbrev pub near_of : ℕ → Job → ℕ → Type 0
+near_of c (tidies batch state) d = Unit {0}
+near_of c (works state) d = near_of_work c state d
+near_of c _ d = d ≡ c
+
 module _ (env : Env) (mix : ℕ → ℕ → ℕ → ℕ) (L : Type 0) where
+  -- it may look at this one's
+  pub record IsNear (core : Core L) (c d : ℕ) : Type 0 where
+    pub job : Job
+    pub does : job_of (local_of core c).doing ≡ Some job
+    pub near : near_of c job d
+
   abbrev g : Geometry
   g = env.geometry
 
@@ -97,6 +110,7 @@ module _ (env : Env) (mix : ℕ → ℕ → ℕ → ℕ) (L : Type 0) where
         IsTableWord word → IsOwnSlot g core c slot ⊎ IsWithin g core c (TableIn slot) ⊎ LoadsRetiredShape g core c slot did
     Asked (Node node word) = IsOwnNode g core c node ⊎ IsWithin g core c (NodeAt node)
     Asked (PageWord index) = IsWithin g core c (PageAt (index / 64)) ⊎ WithdrawsEntry g core c index did
+    Asked (Section d) = IsNear core c d
     Asked _ = Unit {0}
 
     record IsAsked : Type 0 where
@@ -107,9 +121,10 @@ module _ (env : Env) (mix : ℕ → ℕ → ℕ → ℕ) (L : Type 0) where
 
     -- so it is where the call's own is what the ghost says
     module _ (job : Job) (does : job_of (local_of core c).doing ≡ Some job) (reads : (held_of job).section ≡ true → IsReading g core.words c)
-        (G : Ghost) (whole : Whole env mix (mem env mix core.words) G) (Own : Thing → Type 0)
-        (own_node : (node : ℕ) → node < env.geometry.nodes → Own (NodeAt node) → IsOwnNode g core c node)
-        (own_slot : (slot : ℕ) → slot < 8 → Own (TableIn slot) → IsOwnSlot g core c slot) where
+        (G : Ghost) (whole : Whole env mix (mem env mix core.words) G) (Own : Allowed)
+        (own_node : (node : ℕ) → node < env.geometry.nodes → Own.own (NodeAt node) → IsOwnNode g core c node)
+        (own_slot : (slot : ℕ) → slot < 8 → Own.own (TableIn slot) → IsOwnSlot g core c slot)
+        (own_section : (d : ℕ) → Own.near d → IsNear core c d) where
       stands : standing core c ≡ standing_of job
       stands = ap standing_with does
 
@@ -136,6 +151,7 @@ module _ (env : Env) (mix : ℕ → ℕ → ℕ → ℕ) (L : Type 0) where
         reads = reads may.0;
         reaches = could (PageAt (index / 64)) (page_reached env mix core.words G whole (standing_of job) (index / 64) may.1);
       })
+      asked_of (Section d) there may = own_section d may
       asked_of _ there may = tt
 
       is_asked : (op : Op) → did.op ≡ op → Lies env mix core.words G (held_of job) (standing_of job) Own op → IsAsked
@@ -151,7 +167,7 @@ module _ (env : Env) (mix : ℕ → ℕ → ℕ → ℕ) (L : Type 0) where
   record FindLies (w : World L) (c port : ℕ) (state : FindAt) : Type 0 where
     ghost : Ghost
     whole : Whole env mix (mem env mix w.core.words) ghost
-    lies : Lies env mix w.core.words ghost (held_of_find state) (standing_of_find state) (λ thing. ⊥) (find.plan_at env c state)
+    lies : Lies env mix w.core.words ghost (held_of_find state) (standing_of_find state) (nothing_own c) (find.plan_at env c state)
 
   module _ (events : List Event) (admitted : IsAdmitted events) where
     abbrev R : Traced L
@@ -195,10 +211,10 @@ module _ (env : Env) (mix : ℕ → ℕ → ℕ → ℕ) (L : Type 0) where
         reads = open_now env mix L events admitted c low job does
 
         -- by what its call has taken
-        with_own : (op : Op) → did.op ≡ op → Lies env mix core.words G (held_of job) (standing_of job) (OwnOf (held_of job) G c) op
+        with_own : (op : Op) → did.op ≡ op → Lies env mix core.words G (held_of job) (standing_of job) (AllowedOf (held_of job) G c (near_of c job)) op
             → IsAsked core c did
         with_own =
-            is_asked core c did job does reads G whole (OwnOf (held_of job) G c)
+            is_asked core c did job does reads G whole (AllowedOf (held_of job) G c (near_of c job))
             (λ node l own. record {
               job = job;
               does = does;
@@ -216,18 +232,19 @@ module _ (env : Env) (mix : ℕ → ℕ → ℕ → ℕ) (L : Type 0) where
                   let one : state_word (SlotHeld c) ≡ 0 = sym (ap state_word own.1) ∙ sym (whole.slots.states slot l) ∙ free in omega (arith, one);
               apart = nobody env mix L events core met c (TableIn slot) (ap slot_holder own.1);
             })
+            (λ d near. record { job = job; does = does; near = near })
 
       few_callers : (caller : ℕ) → caller < g.callers → caller < 16
       few_callers caller there = let callers = g.within.callers_within in omega (arith, there, callers.1)
 
       -- a tidying loads section words, and gives nodes back
-      tidy_asked : (batch : BatchModel) (state : TidyAt) → did.op ≡ tidy.plan_at g batch state → IsTidyingIn g batch state
+      tidy_asked : (batch : BatchModel) (state : TidyAt) → job_of (local_of core c).doing ≡ Some (tidies batch state) → did.op ≡ tidy.plan_at g batch state → IsTidyingIn g batch state
           → IsAsked core c did
-      tidy_asked batch (tidy_at.Keeping caller) is within =
-          record { address = Section caller; there = few_callers caller within.at_in; on = ap op_place is; asked = tt }
-      tidy_asked batch (tidy_at.Asking caller) is within =
-          record { address = Section caller; there = few_callers caller within.at_in; on = ap op_place is; asked = tt }
-      tidy_asked batch (tidy_at.Giving index) is within =
+      tidy_asked batch (tidy_at.Keeping caller) does is within =
+          record { address = Section caller; there = few_callers caller within.at_in; on = ap op_place is; asked = record { job = _; does = does; near = tt } }
+      tidy_asked batch (tidy_at.Asking caller) does is within =
+          record { address = Section caller; there = few_callers caller within.at_in; on = ap op_place is; asked = record { job = _; does = does; near = tt } }
+      tidy_asked batch (tidy_at.Giving index) does is within =
           let low = waiting_low g batch (tidy_at.Giving index) index within in
           record { address = NodeMap (slice_index batch.waiting index / 64); there = omega (arith, low); on = ap op_place is; asked = tt }
 
@@ -289,7 +306,7 @@ module _ (env : Env) (mix : ℕ → ℕ → ℕ → ℕ) (L : Type 0) where
         returning_asked within tied =
             let job = works (working.Returning returns) in
             let h = held_of job in
-            elim (return_lies env mix core.words G whole c h (standing_of job) (OwnOf h G c) returns within knows tied) [
+            elim (return_lies env mix core.words G whole c h (standing_of job) (AllowedOf h G c (near_of c job)) returns (λ slot caller kept is. (slot, kept, is)) within knows tied) [
               | inl lies ↦ with_own job does _ is lies
               | inr taken ↦ elim taken [ inl shape ↦ shape_asked shape | inr entry ↦ entry_asked entry ]
             ]
@@ -304,8 +321,9 @@ module _ (env : Env) (mix : ℕ → ℕ → ℕ → ℕ) (L : Type 0) where
           → JobKnows env mix c job (mem env mix core.words) G → tied_of env mix G job → IsAsked core c did
       job_asked (finds port state) does planned within knows tied =
           let is = find_so c low port state does within in
-          is_asked core c did (finds port state) does (reads (finds port state) does) is.ghost is.whole (λ thing. ⊥)
-          (λ node l own. absurd own) (λ slot l own. absurd own) (find.plan_at env c state) planned is.lies
+          is_asked core c did (finds port state) does (reads (finds port state) does) is.ghost is.whole (nothing_own c)
+          (λ node l own. absurd own) (λ slot l own. absurd own)
+          (λ d near. record { job = finds port state; does = does; near = near }) (find.plan_at env c state) planned is.lies
       job_asked (binds port owner once state) does planned within knows tied =
           with_own (binds port owner once state) does _ planned
           (bind_lies env mix port owner once core.words G whole c low state within.at_in
@@ -322,15 +340,19 @@ module _ (env : Env) (mix : ℕ → ℕ → ℕ → ℕ) (L : Type 0) where
           (record { knowing = knows.knowing; fits = knows.fits }) tied)
       job_asked (works state) does planned within knows tied =
           work_asked state does planned within knows.knowing tied
-      job_asked (tidies batch state) does planned within knows tied = tidy_asked batch state planned within
+      job_asked (tidies batch state) does planned within knows tied = tidy_asked batch state does planned within
       job_asked (walks from limit room state) does planned within knows tied =
           let job = walks from limit room state in
-          is_asked core c did job does (reads job does) G whole (λ thing. ⊥) (λ node l own. absurd own) (λ slot l own. absurd own)
+          is_asked core c did job does (reads job does) G whole (nothing_own c) (λ node l own. absurd own) (λ slot l own. absurd own)
+          (λ d near. record { job = job; does = does; near = near })
           (walk.plan_at env.geometry c state) planned (walk_lies env mix core.words G whole room c low state within tied)
       job_asked counts does planned within knows tied = record { address = PortCount; there = tt; on = ap op_place planned; asked = tt }
 
-pub inside : (L : Type 0) (mix : ℕ → ℕ → ℕ → ℕ) → Inside L mix
-inside L mix env events c did admitted recorded =
+-- in every run what is asked of an operation on this word is so
+asked-at : (L : Type 0) (mix : ℕ → ℕ → ℕ → ℕ) (env : Env) (events : List Event) (c : ℕ) (did : Did) → IsAdmitted events
+    → IsRecorded L mix env events c did → (a : Address) → IsAddress env.geometry a → op_place did.op ≡ place_of env.geometry a
+    → Asked env mix L (run_of {M = L} mix env (take did.index events)).core c did a
+asked-at L mix env events c did admitted recorded a there same =
     let before = take did.index events in
     let first = (AllByRecursion-cut IsAdmittedEvent before (drop did.index events)
     (subst IsAdmitted (sym (take-append-drop did.index events)) admitted)).0 in
@@ -341,9 +363,24 @@ inside L mix env events c did admitted recorded =
     let tied = subst (tied_with env mix placed.ghost) of.is (met.each c of.low).tied in
     let is = job_asked env mix L before first met c of.few did of.job of.is of.plan of.within of.knows tied in
     let on : op_place did.op ≡ place_of env.geometry is.address = is.on in
-    let here : (a : Address) → IsAddress env.geometry a → op_place did.op ≡ place_of env.geometry a → Asked env mix L core c did a =
-    λ a there same.
-    subst (Asked env mix L core c did) (place_of-apart env.geometry is.address a is.there there (sym on ∙ same)) is.asked in
+    subst (Asked env mix L core c did) (place_of-apart env.geometry is.address a is.there there (sym on ∙ same)) is.asked
+
+-- so it is of one on a section word
+pub near_at : (L : Type 0) (mix : ℕ → ℕ → ℕ → ℕ) (env : Env) (events : List Event) (c d : ℕ) (did : Did) → IsAdmitted events
+    → IsRecorded L mix env events c did → d < 16 → op_place did.op ≡ place_of env.geometry (Section d)
+    → IsNear env mix L (run_of {M = L} mix env (take did.index events)).core c d
+near_at L mix env events c d did admitted recorded low same = asked-at L mix env events c did admitted recorded (Section d) low same
+
+pub inside : (L : Type 0) (mix : ℕ → ℕ → ℕ → ℕ) → Inside L mix
+inside L mix env events c did admitted recorded =
+    let before = take did.index events in
+    let first = (AllByRecursion-cut IsAdmittedEvent before (drop did.index events)
+    (subst IsAdmitted (sym (take-append-drop did.index events)) admitted)).0 in
+    let core : Core L = (run_of mix env before).core in
+    let met = has_met env mix L before first in
+    let placed = met.placed in
+    let of = step_of env mix L core placed.ghost c did.op placed.all placed.inv recorded.plan in
+    let here = asked-at L mix env events c did admitted recorded in
     record {
       nodes = λ node l (word, same). here (Node node word) l same;
       tables = λ slot l (word, of_table, same). here (Slot slot word) (l, table_word word of_table) same of_table;

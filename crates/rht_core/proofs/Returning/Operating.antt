@@ -7,7 +7,7 @@ use Rattle.rht_words.specs.declared.geometry.Geometry.{Geometry}
 use Rattle.rht_words.specs.Held.{Held}
 use Rattle.rht_words.specs.Members.{In}
 use Rattle.rht_words.specs.Operations.{op_place}
-use Rattle.rht_words.specs.Places.{Address, CurrentTable, NextSerial, Slot, ShapeWord, SeedWord, FutureWord, SerialWord, StateWord, NodeMap, PageMap, Node, ChainLink, KeyWord, OwnerWord, ListLink, PageWord, IsAddress, IsBucketPlace, place_of}
+use Rattle.rht_words.specs.Places.{Address, CurrentTable, NextSerial, Section, Slot, ShapeWord, SeedWord, FutureWord, SerialWord, StateWord, NodeMap, PageMap, Node, ChainLink, KeyWord, OwnerWord, ListLink, PageWord, IsAddress, IsBucketPlace, place_of}
 use Rattle.rht_words.specs.Standing.{Standing}
 use Rattle.rht_words.specs.TableWords.{IsTableWord}
 use Rattle.rht_arena.specs.GiveNode.{GiveNodeModel, give_node_plan, IsGiveIn}
@@ -73,7 +73,16 @@ pub record EntryThere (env : Env) (words : List ℕ) (G : Ghost) (at : Standing)
   pub open_in : IsOpenIn env G table entry
   pub there : ReachesTable env.geometry words at (G.table table).slot
 
-module _ (env : Env) (mix : ℕ → ℕ → ℕ → ℕ) (words : List ℕ) (G : Ghost) (h : Held Answer) (at : Standing) (Own : Thing → Type 0) where
+-- what a call has of its own, and whose section words it may look at
+pub record Allowed : Type 1 where
+  pub own : Thing → Type 0
+  pub near : ℕ → Type 0
+
+-- nothing, and its own caller's
+abbrev pub nothing_own : ℕ → Allowed
+nothing_own c = record { own = λ thing. ⊥; near = λ d. d ≡ c }
+
+module _ (env : Env) (mix : ℕ → ℕ → ℕ → ℕ) (words : List ℕ) (G : Ghost) (h : Held Answer) (at : Standing) (Own : Allowed) where
   abbrev g : Geometry
   g = env.geometry
 
@@ -84,9 +93,10 @@ module _ (env : Env) (mix : ℕ → ℕ → ℕ → ℕ) (words : List ℕ) (G :
 
   abbrev pub May : Address → Type 0
   May CurrentTable = IsOpen
-  May (Slot slot word) = IsTableWord word → Own (TableIn slot) ⊎ (IsOpen × In slot at.tables)
-  May (Node node word) = Own (NodeAt node) ⊎ (IsOpen × (In node at.nodes ⊎ In node at.listed))
+  May (Slot slot word) = IsTableWord word → Own.own (TableIn slot) ⊎ (IsOpen × In slot at.tables)
+  May (Node node word) = Own.own (NodeAt node) ⊎ (IsOpen × (In node at.nodes ⊎ In node at.listed))
   May (PageWord index) = IsOpen × PageThere g words G at (index / 64)
+  May (Section d) = Own.near d
   May _ = Unit {0}
 
   pub record Lies (op : Op) : Type 0 where
@@ -201,12 +211,12 @@ module _ (env : Env) (mix : ℕ → ℕ → ℕ → ℕ) (words : List ℕ) (G :
       go (takes.MapWord index) is = record { address = NodeMap index; there = is; on = refl; may = tt }
       go (takes.Claim index bit) is = record { address = NodeMap index; there = (let below = is.below in omega (arith, below)); on = refl; may = tt }
 
-  pub new_node_lies : (m : NewNodeModel) → IsNewNodeIn g m → ((n : ℕ) → node_of_new m.at ≡ Some n → Own (NodeAt n))
+  pub new_node_lies : (m : NewNodeModel) → IsNewNodeIn g m → ((n : ℕ) → node_of_new m.at ≡ Some n → Own.own (NodeAt n))
       → Lies (new_node_plan m)
   new_node_lies m within own =
       subst (λ (g : Geometry). Lies (new_node_plan_at g m.key m.owner m.at)) (sym within.geometry_same) (go m.at within.at_in own)
     where
-      go : (state : NewNodeAt) → IsNewNodeAtIn g state → ((n : ℕ) → node_of_new state ≡ Some n → Own (NodeAt n))
+      go : (state : NewNodeAt) → IsNewNodeAtIn g state → ((n : ℕ) → node_of_new state ≡ Some n → Own.own (NodeAt n))
           → Lies (new_node_plan_at g m.key m.owner state)
       go (news.Taking take) is own = take_node_lies take is
       go (news.Key node) is own = record { address = Node node KeyWord; there = is; on = refl; may = inl (own node refl) }
@@ -253,11 +263,11 @@ module _ (env : Env) (mix : ℕ → ℕ → ℕ → ℕ) (words : List ℕ) (G :
     may = tt;
   }
 
-  pub make_lies : (m : MakeModel) → IsMakeIn g m → ((s : ℕ) → slot_of_make m.at ≡ Some s → Own (TableIn s)) → Lies (make_plan m)
+  pub make_lies : (m : MakeModel) → IsMakeIn g m → ((s : ℕ) → slot_of_make m.at ≡ Some s → Own.own (TableIn s)) → Lies (make_plan m)
   make_lies m within own =
       subst (λ (g : Geometry). Lies (make_plan_at g m.exponent m.seed m.at)) (sym within.geometry_same) (go m.at within.at_in own)
     where
-      go : (state : MakeAt) → IsMakeAtIn g m.exponent m.nested state → ((s : ℕ) → slot_of_make state ≡ Some s → Own (TableIn s))
+      go : (state : MakeAt) → IsMakeAtIn g m.exponent m.nested state → ((s : ℕ) → slot_of_make state ≡ Some s → Own.own (TableIn s))
           → Lies (make_plan_at g m.exponent m.seed state)
       go (makes.Slot slot) is own = record { address = Slot slot StateWord; there = (is, tt); on = refl; may = λ w. absurd w }
       go (makes.Taking slot take) is own = take_run_lies take is.take_in

@@ -15,7 +15,7 @@ use Rattle.rht_bind.specs.declared.bind.Claimed.{Claimed}
 use Rattle.rht_bind.specs.declared.bind.BindAt.{BindAt}
 use Rattle.rht_bind.specs.declared.bind.BindAt.TheVariants as at
 use Rattle.rht_bind.proofs.BindKnowledge.{BindKnows}
-use Rattle.rht_core.specs.Reach.{Thing, at_table}
+use Rattle.rht_core.specs.Reach.{at_table}
 use Rattle.rht_ghost.proofs.Pieces.OpenEntries.{known_growing}
 use Rattle.rht_ghost.proofs.Theory.Entries.{entry_in}
 use Rattle.rht_ghost.proofs.Theory.Ghosts.{Ghost, PageOf}
@@ -23,8 +23,8 @@ use Rattle.rht_ghost.proofs.Theory.Knowledge.{TableMeans}
 use Rattle.rht_ghost.proofs.Theory.Steps.{mem}
 use Rattle.rht_ghost.proofs.Theory.Wholes.{Whole, word_index, index-place_at}
 use Rattle.rht_core.proofs.Returning.TiedBuckets.{tied_of_bind}
-use Rattle.rht_core.proofs.Returning.Operating.{PageThere, Lies, probe_lies, relink_lies, unlock_lies, new_node_lies, give_node_lies, make_lies, unmake_lies, grow_lies}
-use Rattle.rht_core.proofs.Returning.OperatingWays.{OwnOf, tied_page, new_mine, make_mine, home_page, way_entry, locate_way}
+use Rattle.rht_core.proofs.Returning.Operating.{PageThere, Lies, Allowed, probe_lies, relink_lies, unlock_lies, new_node_lies, give_node_lies, make_lies, unmake_lies, grow_lies}
+use Rattle.rht_core.proofs.Returning.OperatingWays.{AllowedOf, tied_page, new_mine, make_mine, home_page, way_entry, locate_way}
 
 -- before the store of the link and behind it the call is in its section
 replacing-inside : (claimed : Claimed) (stored : Bool) → (holds_replacing claimed stored).section ≡ true
@@ -33,8 +33,8 @@ replacing-inside claimed false = refl
 
 module _ (env : Env) (mix : ℕ → ℕ → ℕ → ℕ) (port owner : ℕ) (once : Bool) (words : List ℕ) (G : Ghost)
     (whole : Whole env mix (mem env mix words) G) (c : ℕ) (low : c < 16) where
-  abbrev Own : BindAt → Thing → Type 0
-  Own state = OwnOf (held_of_bind state) G c
+  abbrev Own : BindAt → Allowed
+  Own state = AllowedOf (held_of_bind state) G c (λ d. d ≡ c)
 
   abbrev Is : BindAt → Type 0
   Is state = Lies env mix words G (held_of_bind state) (standing_of_bind state) (Own state) (plan_at env c state)
@@ -61,7 +61,7 @@ module _ (env : Env) (mix : ℕ → ℕ → ℕ → ℕ) (port owner : ℕ) (onc
   bind_lies (at.Filling new) within knows tied =
       new_node_lies env mix words G _ _ (Own (at.Filling new)) new within
       (λ n is. (is, new_mine env mix words G whole c port owner new.at n is knows.knowing.means.node))
-  bind_lies (at.Opening attempt) within knows tied = record { address = Section c; there = low; on = refl; may = tt }
+  bind_lies (at.Opening attempt) within knows tied = record { address = Section c; there = low; on = refl; may = refl }
   bind_lies (at.CurrentTable attempt) within knows tied = record { address = CurrentTable; there = tt; on = refl; may = refl }
   bind_lies (at.Locating attempt locate) within knows tied =
       let from = standing_of_bind (at.Locating attempt locate) in
@@ -141,5 +141,5 @@ module _ (env : Env) (mix : ℕ → ℕ → ℕ → ℕ) (port owner : ℕ) (onc
   }
   bind_lies (at.Unmaking attempt unmake answer) within knows tied =
       unmake_lies env mix words G _ _ (Own (at.Unmaking attempt unmake answer)) unmake within.unmake_in
-  bind_lies (at.Closing ending) within knows tied = record { address = Section c; there = low; on = refl; may = tt }
+  bind_lies (at.Closing ending) within knows tied = record { address = Section c; there = low; on = refl; may = refl }
   bind_lies (at.Giving give reply) within knows tied = give_node_lies env mix words G _ _ (Own (at.Giving give reply)) give within

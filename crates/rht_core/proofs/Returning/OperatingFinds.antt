@@ -16,18 +16,18 @@ use Rattle.rht_ghost.proofs.Theory.Steps.{mem}
 use Rattle.rht_ghost.proofs.Theory.Wholes.{Whole}
 use Rattle.rht_core.proofs.Finding.Lookups.{LookMeans}
 use Rattle.rht_core.proofs.Finding.Places.{Places}
-use Rattle.rht_core.proofs.Returning.Operating.{Lies, reach_lies, page_lies}
+use Rattle.rht_core.proofs.Returning.Operating.{Lies, nothing_own, reach_lies, page_lies}
 use Rattle.rht_core.proofs.Returning.OperatingWays.{home_page, way_entry}
 
 module _ (env : Env) (mix : ℕ → ℕ → ℕ → ℕ) (port : ℕ) (seen : ℕ → Bool) (since : ℕ) (Says : Reply → Type 0) (words : List ℕ) (G : Ghost) (P : Places)
     (whole : Whole env mix (mem env mix words) G) where
   -- a look-up has nothing of its own
   abbrev Is : ℕ → FindAt → Type 0
-  Is c state = Lies env mix words G (held_of_find state) (standing_of_find state) (λ thing. ⊥) (plan_at env c state)
+  Is c state = Lies env mix words G (held_of_find state) (standing_of_find state) (nothing_own c) (plan_at env c state)
 
   pub find_lies : (c : ℕ) → c < 16 → (state : FindAt) → IsFindAtIn env state
       → LookMeans env mix port seen since Says (mem env mix words) G P state → Is c state
-  find_lies c low at.Opening within known = record { address = Section c; there = low; on = refl; may = tt }
+  find_lies c low at.Opening within known = record { address = Section c; there = low; on = refl; may = refl }
   find_lies c low at.CurrentTable within known = record { address = CurrentTable; there = tt; on = refl; may = refl }
   find_lies c low (at.Locating reach) within known =
       let from = standing_of_find (at.Locating reach) in
@@ -46,4 +46,4 @@ module _ (env : Env) (mix : ℕ → ℕ → ℕ → ℕ) (port : ℕ) (seen : �
       record { address = Slot table FutureWord; there = (within, tt); on = refl; may = λ w. inr (refl, inl refl) }
   find_lies c low (at.Owner node) within known =
       record { address = Node node OwnerWord; there = within; on = refl; may = inr (refl, inl (inl refl)) }
-  find_lies c low (at.Closing reply) within known = record { address = Section c; there = low; on = refl; may = tt }
+  find_lies c low (at.Closing reply) within known = record { address = Section c; there = low; on = refl; may = refl }

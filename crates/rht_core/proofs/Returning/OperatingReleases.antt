@@ -32,14 +32,14 @@ use Rattle.rht_release.proofs.AllSteps.{AllKnows}
 use Rattle.rht_release.proofs.RebindKnowledge.{RebindKnows, own}
 use Rattle.rht_release.proofs.ReleaseKnowledge.{ReleaseKnows}
 use Rattle.rht_release.specs.SeekStanding.{at_found, at_relink, nodes_of_search}
-use Rattle.rht_core.specs.Reach.{Thing, at_table}
+use Rattle.rht_core.specs.Reach.{at_table}
 use Rattle.rht_ghost.proofs.Pieces.Relinks.{relinking}
 use Rattle.rht_ghost.proofs.Theory.Ghosts.{Ghost}
 use Rattle.rht_ghost.proofs.Theory.Steps.{mem}
 use Rattle.rht_ghost.proofs.Theory.Wholes.{Whole, word_index}
 use Rattle.rht_core.proofs.Returning.TiedBuckets.{IsTied, tied_of_all, tied_of_release, tied_of_rebind}
-use Rattle.rht_core.proofs.Returning.Operating.{PageThere, Lies, relink_lies, unlock_lies, new_node_lies, give_node_lies}
-use Rattle.rht_core.proofs.Returning.OperatingWays.{OwnOf, tied_page, new_mine, seek_lies}
+use Rattle.rht_core.proofs.Returning.Operating.{PageThere, Lies, Allowed, relink_lies, unlock_lies, new_node_lies, give_node_lies}
+use Rattle.rht_core.proofs.Returning.OperatingWays.{AllowedOf, tied_page, new_mine, seek_lies}
 
 -- before the store of the link and behind it the call is in its section
 relinking-inside : (found : FoundPort) (raised stored : Bool) → (holds_relinking found raised stored).section ≡ true
@@ -72,7 +72,7 @@ module _ (env : Env) (mix : ℕ → ℕ → ℕ → ℕ) (port owner : ℕ) (wor
       (tied_page env mix words G whole from found.table found.bucket.place (at_table found.table (inl refl)) tied)
 
   -- the search of a port's list is at its nodes
-  search_lies : (h : Held Answer) (Own : Thing → Type 0) (found : FoundPort) (search : ListSearch) → IsSearchIn env.geometry search
+  search_lies : (h : Held Answer) (Own : Allowed) (found : FoundPort) (search : ListSearch) → IsSearchIn env.geometry search
       → h.section ≡ true → Lies env mix words G h (at_found found (nodes_of_search search)) Own (search_plan env.geometry search)
   search_lies h Own found (searches.Owner node before) within inside =
       record { address = Node node OwnerWord; there = within.node_in; on = refl; may = inr (inside, inr (inl refl)) }
@@ -81,13 +81,13 @@ module _ (env : Env) (mix : ℕ → ℕ → ℕ → ℕ) (port owner : ℕ) (wor
 
   -- ---- a listing
 
-  abbrev OwnAll : Kept ℕ → AllAt → Thing → Type 0
-  OwnAll room state = OwnOf (held_of_all room.items state) G c
+  abbrev OwnAll : Kept ℕ → AllAt → Allowed
+  OwnAll room state = AllowedOf (held_of_all room.items state) G c (λ d. d ≡ c)
 
   pub all_lies : (room : Kept ℕ) (state : AllAt) → all.IsAllAtIn env state → AllKnows env mix c port room state (mem env mix words) G
       → tied_of_all env mix G state
       → Lies env mix words G (held_of_all room.items state) (standing_of_all state) (OwnAll room state) (all.plan_at env c state)
-  all_lies room alls.Opening within knows tied = record { address = Section c; there = low; on = refl; may = tt }
+  all_lies room alls.Opening within knows tied = record { address = Section c; there = low; on = refl; may = refl }
   all_lies room (alls.Seeking seek) within knows tied =
       seek_lies env mix words G whole _ (OwnAll room (alls.Seeking seek)) c port None seek within refl tied knows.knowing.means.table
   all_lies room (alls.Owner found node) within knows tied =
@@ -98,17 +98,17 @@ module _ (env : Env) (mix : ℕ → ℕ → ℕ → ℕ) (port owner : ℕ) (wor
       let from = standing_of_all (alls.Unlocking table unlock) in
       unlock_lies env mix words G _ from (OwnAll room (alls.Unlocking table unlock)) unlock within.unlock_in refl
       (tied_page env mix words G whole from table unlock.place (at_table table (inl refl)) tied)
-  all_lies room alls.Closing within knows tied = record { address = Section c; there = low; on = refl; may = tt }
+  all_lies room alls.Closing within knows tied = record { address = Section c; there = low; on = refl; may = refl }
 
   -- ---- a release
 
-  abbrev OwnRelease : ReleaseAt → Thing → Type 0
-  OwnRelease state = OwnOf (held_of_release state) G c
+  abbrev OwnRelease : ReleaseAt → Allowed
+  OwnRelease state = AllowedOf (held_of_release state) G c (λ d. d ≡ c)
 
   pub release_lies : (state : ReleaseAt) → release.IsReleaseAtIn env state → ReleaseKnows env mix c port owner state (mem env mix words) G
       → tied_of_release env mix G state
       → Lies env mix words G (held_of_release state) (standing_of_release state) (OwnRelease state) (release.plan_at env c state)
-  release_lies releases.Opening within knows tied = record { address = Section c; there = low; on = refl; may = tt }
+  release_lies releases.Opening within knows tied = record { address = Section c; there = low; on = refl; may = refl }
   release_lies (releases.Seeking seek) within knows tied =
       seek_lies env mix words G whole _ (OwnRelease (releases.Seeking seek)) c port None seek within refl tied knows.knowing.means.table
   release_lies (releases.Searching found search) within knows tied =
@@ -136,12 +136,12 @@ module _ (env : Env) (mix : ℕ → ℕ → ℕ → ℕ) (port owner : ℕ) (wor
       let from = standing_of_release (releases.Unlocking table unlock removed) in
       unlock_lies env mix words G _ from (OwnRelease (releases.Unlocking table unlock removed)) unlock within.unlock_in refl
       (tied_page env mix words G whole from table unlock.place (at_table table (inl refl)) tied)
-  release_lies (releases.Closing reply removed) within knows tied = record { address = Section c; there = low; on = refl; may = tt }
+  release_lies (releases.Closing reply removed) within knows tied = record { address = Section c; there = low; on = refl; may = refl }
 
   -- ---- a rebind
 
-  abbrev OwnRebind : RebindAt → Thing → Type 0
-  OwnRebind state = OwnOf (held_of_rebind state) G c
+  abbrev OwnRebind : RebindAt → Allowed
+  OwnRebind state = AllowedOf (held_of_rebind state) G c (λ d. d ≡ c)
 
   pub rebind_lies : (new : ℕ) (state : RebindAt) → rebind.IsRebindAtIn env state
       → RebindKnows env mix c port owner new state (mem env mix words) G
@@ -150,7 +150,7 @@ module _ (env : Env) (mix : ℕ → ℕ → ℕ → ℕ) (port owner : ℕ) (wor
   rebind_lies new (rebinds.Filling fresh) within knows tied =
       new_node_lies env mix words G _ _ (OwnRebind (rebinds.Filling fresh)) fresh within
       (λ n is. (is, new_mine env mix words G whole c port new fresh.at n is knows.knowing.means.node))
-  rebind_lies new (rebinds.Opening node) within knows tied = record { address = Section c; there = low; on = refl; may = tt }
+  rebind_lies new (rebinds.Opening node) within knows tied = record { address = Section c; there = low; on = refl; may = refl }
   rebind_lies new (rebinds.Seeking node seek) within knows tied =
       seek_lies env mix words G whole _ (OwnRebind (rebinds.Seeking node seek)) c port (Some (own port owner new node)) seek within.seek_in
       refl tied knows.knowing.means.table
@@ -176,5 +176,5 @@ module _ (env : Env) (mix : ℕ → ℕ → ℕ → ℕ) (port owner : ℕ) (wor
       unlock_lies env mix words G _ from (OwnRebind (rebinds.Unlocking table unlock end)) unlock within.unlock_in
       (end-inside (Some unlock.place) end)
       (tied_page env mix words G whole from table unlock.place (at_table table (inl refl)) tied)
-  rebind_lies new (rebinds.Closing end) within knows tied = record { address = Section c; there = low; on = refl; may = tt }
+  rebind_lies new (rebinds.Closing end) within knows tied = record { address = Section c; there = low; on = refl; may = refl }
   rebind_lies new (rebinds.Giving give) within knows tied = give_node_lies env mix words G _ _ (OwnRebind (rebinds.Giving give)) give within

@@ -23,11 +23,10 @@ use Rattle.rht_reclaim.specs.declared.return_tables.ReturnTablesAt.{ReturnTables
 use Rattle.rht_reclaim.specs.declared.return_tables.ReturnTablesAt.TheVariants as returns_at
 use Rattle.rht_move.specs.declared.work.WorkAt.TheVariants as at
 use Rattle.rht_move.proofs.WorkKnowledge.{WorkKnows}
-use Rattle.rht_core.specs.Reach.{Thing}
 use Rattle.rht_core.specs.TablePages.{LeadsOn, IsEntryOfTable}
 use Rattle.rht_stands.specs.StandsFor.{shape_of, page_word}
 use Rattle.rht_core.proofs.Counting.TablePages.{top_is, many_entries, read_of, top_leads_to}
-use Rattle.rht_core.proofs.Returning.Operating.{Lies, give_run_lies}
+use Rattle.rht_core.proofs.Returning.Operating.{Lies, Allowed, give_run_lies}
 use Rattle.rht_core.proofs.Returning.TiedWorks.{tied_of_giving, tied_of_returning}
 use Rattle.rht_core.proofs.Undoing.EnteredWords.{entries_read}
 use Rattle.rht_ghost.proofs.Theory.Ghosts.{Leaf, Middle, Top, has_entries, Ghost, PageOf, entry_word, is_entry_of, some-same}
@@ -72,7 +71,7 @@ module _ (env : Env) (mix : ℕ → ℕ → ℕ → ℕ) (words : List ℕ) (G :
     pub does : (op ≡ Load (place_of g (PageWord index)))
         ⊎ ((op ≡ Store (place_of g (PageWord index)) 0) × LeadsToBlank (word_at g words (PageWord index)))
 
-  module _ (h : Held Answer) (from : Standing) (Own : Thing → Type 0) where
+  module _ (h : Held Answer) (from : Standing) (Own : Allowed) where
     -- a word of which nothing is asked, or one of these
     abbrev pub Returns : Op → Type 0
     Returns op = Lies env mix words G h from Own op ⊎ LoadsShape op ⊎ TakesEntry op
@@ -302,23 +301,25 @@ module _ (env : Env) (mix : ℕ → ℕ → ℕ → ℕ) (words : List ℕ) (G :
     give_lies slot l gives.FreeSlot within knows tied =
         inl (record { address = Slot slot StateWord; there = (l, tt); on = refl; may = λ w. absurd w })
 
-    returns_lie : (state : ReturnTablesAt) → IsReturnTablesAtIn g state → Knows state → tied_of_returning state → Returns (return_tables_plan_at g state)
-    returns_lie (returns_at.State slot) within knows tied =
+    returns_lie : (state : ReturnTablesAt) → ((slot caller kept : ℕ) → state ≡ returns_at.SectionWord slot caller kept → Own.near caller)
+        → IsReturnTablesAtIn g state → Knows state → tied_of_returning state → Returns (return_tables_plan_at g state)
+    returns_lie (returns_at.State slot) near within knows tied =
         inl (record { address = Slot slot StateWord; there = (within, tt); on = refl; may = λ w. absurd w })
-    returns_lie (returns_at.KeptWord slot caller) within knows tied = inl (record {
+    returns_lie (returns_at.KeptWord slot caller) near within knows tied = inl (record {
       address = Slot slot (LoadedSection caller);
       there = (within.slot_in, few caller within.caller_in);
       on = refl;
       may = λ w. absurd w;
     })
-    returns_lie (returns_at.SectionWord slot caller kept) within knows tied =
-        inl (record { address = Section caller; there = few caller within.caller_in; on = refl; may = tt })
-    returns_lie (returns_at.Giving give) within knows tied =
+    returns_lie (returns_at.SectionWord slot caller kept) near within knows tied =
+        inl (record { address = Section caller; there = few caller within.caller_in; on = refl; may = near slot caller kept refl })
+    returns_lie (returns_at.Giving give) near within knows tied =
         subst (λ (k : Geometry). Returns (give_table_plan_at k give.slot give.at)) (sym within.geometry_same)
         (give_lies give.slot within.slot_in give.at within.at_in knows tied)
 
-    pub return_lies : (m : ReturnTablesModel) → IsReturnTablesIn g m → WorkKnows env mix c (at.Returning m) M G
+    pub return_lies : (m : ReturnTablesModel) → ((slot caller kept : ℕ) → m.at ≡ returns_at.SectionWord slot caller kept → Own.near caller)
+        → IsReturnTablesIn g m → WorkKnows env mix c (at.Returning m) M G
         → tied_of_returning m.at → Returns (return_tables_plan m)
-    return_lies m within knows tied =
+    return_lies m near within knows tied =
         subst (λ (k : Geometry). Returns (return_tables_plan_at k m.at)) (sym within.geometry_same)
-        (returns_lie m.at within.at_in knows tied)
+        (returns_lie m.at near within.at_in knows tied)

@@ -34,13 +34,17 @@ use Rattle.rht_ghost.proofs.Theory.Steps.{mem}
 use Rattle.rht_ghost.proofs.Theory.Wholes.{Whole, IsAt, home, word_index, at-there, AreThereFrom}
 use Rattle.rht_core.proofs.Meaning.TablesInForce.{future-leads}
 use Rattle.rht_core.proofs.Returning.TiedBuckets.{IsTied, tied_of_seek}
-use Rattle.rht_core.proofs.Returning.Operating.{PageThere, EntryThere, Lies, locate_lies, probe_lies, unlock_lies}
+use Rattle.rht_core.proofs.Returning.Operating.{PageThere, EntryThere, Lies, Allowed, locate_lies, probe_lies, unlock_lies}
 
 -- what the call has taken for itself
 abbrev pub OwnOf : Held Answer → Ghost → ℕ → Thing → Type 0
 OwnOf h G c (TableIn slot) = (h.slot ≡ Some slot) × (G.slot slot ≡ SlotHeld c)
 OwnOf h G c (PageAt page) = ⊥
 OwnOf h G c (NodeAt node) = (h.node ≡ Some node) × (G.node node ≡ NodeHeld c)
+
+-- and beside it the section words of these callers
+abbrev pub AllowedOf : Held Answer → Ghost → ℕ → (ℕ → Type 0) → Allowed
+AllowedOf h G c near = record { own = OwnOf h G c; near = near }
 
 module _ (env : Env) (mix : ℕ → ℕ → ℕ → ℕ) (words : List ℕ) (G : Ghost) (whole : Whole env mix (mem env mix words) G) where
   abbrev M : Memory
@@ -106,7 +110,7 @@ module _ (env : Env) (mix : ℕ → ℕ → ℕ → ℕ) (words : List ℕ) (G :
 
   -- ---- on the way to a port
 
-  module _ (h : Held Answer) (Own : Thing → Type 0) (c port : ℕ) where
+  module _ (h : Held Answer) (Own : Allowed) (c port : ℕ) where
     pub locate_way : (at : Standing) (m : LocateModel) → IsLocateIn env.geometry m → h.section ≡ true → In m.table at.tables
         → TableMeans env mix c G (known_locate port m.table m.at) → Lies env mix words G h at Own (locate_plan m)
     locate_way at m within inside there known =

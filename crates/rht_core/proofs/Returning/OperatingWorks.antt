@@ -9,6 +9,7 @@ use Rattle.rht_words.specs.Standing.{Standing, if_one}
 use Rattle.rht_model.specs.Answers.{Answer}
 use Rattle.rht_reclaim.specs.KeepSections.{KeepSectionsModel, keep_sections_plan, keep_sections_plan_at, IsKeepSectionsIn, IsKeepSectionsAtIn}
 use Rattle.rht_reclaim.specs.ReturnTables.{ReturnTablesModel}
+use Rattle.rht_reclaim.specs.declared.return_tables.ReturnTablesAt.TheVariants as returns_at
 use Rattle.rht_reclaim.specs.declared.keep_sections.KeepSectionsAt.{KeepSectionsAt}
 use Rattle.rht_reclaim.specs.declared.keep_sections.KeepSectionsAt.TheVariants as keeps
 use Rattle.rht_move.specs.LastEntry.{LastEntryModel, last_entry_plan, IsLastEntryIn}
@@ -24,26 +25,33 @@ use Rattle.rht_ghost.proofs.Theory.Knowns.{KnownRehash, KnownPlace}
 use Rattle.rht_move.specs.declared.work.WorkAt.{WorkAt}
 use Rattle.rht_move.specs.declared.work.WorkAt.TheVariants as at
 use Rattle.rht_move.proofs.WorkKnowledge.{WorkKnows, known_unlocking, known_rehash}
-use Rattle.rht_core.specs.Reach.{Thing, ReachesTable, at_table}
+use Rattle.rht_core.specs.Reach.{ReachesTable, at_table}
 use Rattle.rht_chain.specs.LockedWalk.{IsNodeOrNone}
 use Rattle.rht_ghost.proofs.Theory.Ghosts.{Ghost}
 use Rattle.rht_ghost.proofs.Theory.Passed.{home-word, place-word}
 use Rattle.rht_ghost.proofs.Theory.Steps.{mem}
 use Rattle.rht_ghost.proofs.Theory.Wholes.{Whole, key_of, word_index, force-there, current-there}
 use Rattle.rht_ghost.proofs.Pieces.OpenEntries.{way_open}
-use Rattle.rht_core.proofs.Returning.Operating.{Lies, entry_lies, lock_lies, unlock_lies, page_lies, make_lies, unmake_lies, PageThere}
-use Rattle.rht_core.proofs.Returning.OperatingWays.{OwnOf, make_mine, further}
+use Rattle.rht_core.proofs.Returning.Operating.{Lies, Allowed, entry_lies, lock_lies, unlock_lies, page_lies, make_lies, unmake_lies, PageThere}
+use Rattle.rht_core.proofs.Returning.OperatingWays.{AllowedOf, make_mine, further}
+
+-- whose section word a worker may look at: its own caller's, that of the next caller whose word it keeps, and of one over whose retired table it
+-- may still be
+abbrev pub near_of_work : ℕ → WorkAt → ℕ → Type 0
+near_of_work c (at.KeepingSections keep again) d = keep.at ≡ keeps.Section d
+near_of_work c (at.Returning returns) d = (slot : ℕ) × (kept : ℕ) × (returns.at ≡ returns_at.SectionWord slot d kept)
+near_of_work c _ d = d ≡ c
 
 module _ (env : Env) (mix : ℕ → ℕ → ℕ → ℕ) (words : List ℕ) (G : Ghost) (whole : Whole env mix (mem env mix words) G) (c : ℕ) (low : c < 16) where
-  abbrev Own : WorkAt → Thing → Type 0
-  Own state = OwnOf (held_of_work state) G c
+  abbrev Own : WorkAt → Allowed
+  Own state = AllowedOf (held_of_work state) G c (near_of_work c state)
 
   abbrev Is : WorkAt → Type 0
   Is state = Lies env mix words G (held_of_work state) (standing_of_work state) (Own state) (plan_at env c state)
 
   -- ---- the pieces
 
-  last_lies : (h : Held Answer) (from : Standing) (Mine : Thing → Type 0) (m : LastTableModel) → IsLastTableIn env.geometry m → h.section ≡ true
+  last_lies : (h : Held Answer) (from : Standing) (Mine : Allowed) (m : LastTableModel) → IsLastTableIn env.geometry m → h.section ≡ true
       → In (table_of_seek m.at) from.tables → Lies env mix words G h from Mine (last_table_plan m)
   last_lies h from Mine m within inside there = go m.at within.at_in there
     where
@@ -52,7 +60,7 @@ module _ (env : Env) (mix : ℕ → ℕ → ℕ → ℕ) (words : List ℕ) (G :
       go (seeks.Future table) is there = record { address = Slot table FutureWord; there = (is, tt); on = refl; may = λ w. inr (inside, there) }
       go (seeks.Shape table) is there = record { address = Slot table ShapeWord; there = (is, tt); on = refl; may = λ w. inr (inside, there) }
 
-  walk_lies : (h : Held Answer) (from : Standing) (Mine : Thing → Type 0) (m : LastEntryModel) → IsLastEntryIn env.geometry m → h.section ≡ true
+  walk_lies : (h : Held Answer) (from : Standing) (Mine : Allowed) (m : LastEntryModel) → IsLastEntryIn env.geometry m → h.section ≡ true
       → In m.node from.nodes → Lies env mix words G h from Mine (last_entry_plan m)
   walk_lies h from Mine m within inside there = record {
     address = Node m.node ChainLink;
@@ -62,7 +70,7 @@ module _ (env : Env) (mix : ℕ → ℕ → ℕ → ℕ) (words : List ℕ) (G :
   }
 
   -- a bucket is cut off in its word, or in the node before its last entry
-  cut_lies : (h : Held Answer) (from : Standing) (Mine : Thing → Type 0) (place : ℕ) (before : Option ℕ) → IsBucketPlace env.geometry place
+  cut_lies : (h : Held Answer) (from : Standing) (Mine : Allowed) (place : ℕ) (before : Option ℕ) → IsBucketPlace env.geometry place
       → h.section ≡ true → PageThere env.geometry words G from (word_index env mix place / 64) → IsNodeOrNone env.geometry before → ((n : ℕ) → before ≡ Some n → In n from.nodes)
       → Lies env mix words G h from Mine (cut_plan env.geometry place before)
   cut_lies h from Mine place None is inside page within there =
@@ -101,19 +109,20 @@ module _ (env : Env) (mix : ℕ → ℕ → ℕ → ℕ) (words : List ℕ) (G :
 
   -- ---- each operation
 
-  keep_lies : (h : Held Answer) (from : Standing) (Mine : Thing → Type 0) (keep : KeepSectionsModel) → IsKeepSectionsIn env.geometry keep
+  keep_lies : (h : Held Answer) (from : Standing) (Mine : Allowed) (keep : KeepSectionsModel)
+      → ((caller : ℕ) → keep.at ≡ keeps.Section caller → Mine.near caller) → IsKeepSectionsIn env.geometry keep
       → Lies env mix words G h from Mine (keep_sections_plan keep)
-  keep_lies h from Mine keep within =
+  keep_lies h from Mine keep near within =
       subst (λ g. Lies env mix words G h from Mine (keep_sections_plan_at g keep.slot keep.at)) (sym within.geometry_same)
-      (go keep.at within.at_in)
+      (go keep.at near within.at_in)
     where
       few : (caller : ℕ) → caller < env.geometry.callers → caller < 16
       few caller there = let callers = env.geometry.within.callers_within in omega (arith, there, callers.1)
 
-      go : (state : KeepSectionsAt) → IsKeepSectionsAtIn env.geometry state
+      go : (state : KeepSectionsAt) → ((caller : ℕ) → state ≡ keeps.Section caller → Mine.near caller) → IsKeepSectionsAtIn env.geometry state
           → Lies env mix words G h from Mine (keep_sections_plan_at env.geometry keep.slot state)
-      go (keeps.Section caller) is = record { address = Section caller; there = few caller is; on = refl; may = tt }
-      go (keeps.Word caller word) is = record {
+      go (keeps.Section caller) near is = record { address = Section caller; there = few caller is; on = refl; may = near caller refl }
+      go (keeps.Word caller word) near is = record {
         address = Slot keep.slot (LoadedSection caller);
         there = (within.slot_in, few caller is.caller_in);
         on = refl;
@@ -125,9 +134,9 @@ module _ (env : Env) (mix : ℕ → ℕ → ℕ → ℕ) (words : List ℕ) (G :
       → WorkKnows env mix c state (mem env mix words) G → Is state
   work_lies (at.Returning returns) none within knows = absurd (none returns refl)
   work_lies (at.KeepingSections keep again) none within knows =
-      keep_lies _ _ (Own (at.KeepingSections keep again)) keep within
+      keep_lies _ _ (Own (at.KeepingSections keep again)) keep (λ caller is. is) within
   work_lies at.WorkLock none within knows = record { address = WorkLock; there = tt; on = refl; may = tt }
-  work_lies at.Opening none within knows = record { address = Section c; there = low; on = refl; may = tt }
+  work_lies at.Opening none within knows = record { address = Section c; there = low; on = refl; may = refl }
   work_lies at.CurrentTable none within knows = record { address = CurrentTable; there = tt; on = refl; may = refl }
   work_lies (at.LastTable root seek) none within knows =
       last_lies _ _ (Own (at.LastTable root seek)) seek within.seek_in refl (inr (inl refl))
@@ -221,7 +230,7 @@ module _ (env : Env) (mix : ℕ → ℕ → ℕ → ℕ) (words : List ℕ) (G :
     on = refl;
     may = λ w. inr (refl, inl refl);
   }
-  work_lies (at.Closing ending) none within knows = record { address = Section c; there = low; on = refl; may = tt }
+  work_lies (at.Closing ending) none within knows = record { address = Section c; there = low; on = refl; may = refl }
   work_lies (at.Retiring root again) none within knows =
       record { address = Slot root StateWord; there = (within, tt); on = refl; may = λ w. absurd w }
   work_lies (at.LettingGo outcome) none within knows = record { address = WorkLock; there = tt; on = refl; may = tt }

@@ -29,7 +29,7 @@ use Rattle.rht_ghost.proofs.Theory.Passed.{place-word}
 use Rattle.rht_ghost.proofs.Theory.Steps.{mem}
 use Rattle.rht_ghost.proofs.Theory.Wholes.{Whole, word_index, place_at-index, at-there}
 use Rattle.rht_core.proofs.Returning.Coming.{Comes, to_nowhere, to_tables, to_nodes, IsBucketThere, first_reached}
-use Rattle.rht_core.proofs.Returning.Operating.{Lies, page_lies, entry_lies}
+use Rattle.rht_core.proofs.Returning.Operating.{Lies, nothing_own, page_lies, entry_lies}
 use Rattle.rht_core.proofs.Returning.OperatingWays.{way_entry}
 use Rattle.rht_core.proofs.Returning.TiedWalks.{tied_of_walk, number_below}
 
@@ -140,8 +140,8 @@ module _ (env : Env) (mix : ℕ → ℕ → ℕ → ℕ) (words : List ℕ) (G :
 
   -- a walk has nothing of its own
   pub walk_lies : (room : Pairs) (c : ℕ) → c < 16 → (state : WalkAt) → IsWalkAtIn env.geometry state → tied_of_walk env mix G state
-      → Lies env mix words G (held_of_walk room state) (standing_of_walk state) (λ thing. ⊥) (plan_at env.geometry c state)
-  walk_lies room c low at.Opening within tied = record { address = Section c; there = low; on = refl; may = tt }
+      → Lies env mix words G (held_of_walk room state) (standing_of_walk state) (nothing_own c) (plan_at env.geometry c state)
+  walk_lies room c low at.Opening within tied = record { address = Section c; there = low; on = refl; may = refl }
   walk_lies room c low at.CurrentTable within tied = record { address = CurrentTable; there = tt; on = refl; may = refl }
   walk_lies room c low (at.Serial table) within tied =
       record { address = Slot table SerialWord; there = (within, tt); on = refl; may = λ w. inr (refl, inl refl) }
@@ -173,4 +173,4 @@ module _ (env : Env) (mix : ℕ → ℕ → ℕ → ℕ) (words : List ℕ) (G :
       record { address = Slot visit.table FutureWord; there = (within.table_in, tt); on = refl; may = λ w. inr (refl, inl refl) }
   walk_lies room c low (at.TableEnd table) within tied =
       record { address = Slot table FutureWord; there = (within, tt); on = refl; may = λ w. inr (refl, inl refl) }
-  walk_lies room c low (at.Closing end) within tied = record { address = Section c; there = low; on = refl; may = tt }
+  walk_lies room c low (at.Closing end) within tied = record { address = Section c; there = low; on = refl; may = refl }

@@ -3,13 +3,11 @@
 -- Of each caller it is kept, event by event, what its tidying has given back beside the batch before the call began, and that the machine
 -- which begins with that batch goes on from the present state. That batch is sound, by the invariant.
 -- And a caller in no call has the batch that was there behind its last call, for no event of another caller touches it.
-use Rattle.std.proofs.Common.{◌≡◌, ◌↔◌, ℕ, suc, ◌+◌, ◌/◌, ◌<◌, ◌≤◌, ◌++◌, ◌∷◌, List, [], length, take, drop, get_or, map, true, false, Option, Some, None, refl, sym, ap, ◌∙◌, subst, inl, inr, append_assoc, drop-cons, length-append, arith}
+use Rattle.std.proofs.Common.{◌≡◌, ◌↔◌, ℕ, suc, ◌+◌, ◌/◌, ◌<◌, ◌≤◌, ◌++◌, ◌∷◌, List, [], length, drop, get_or, map, true, false, Option, Some, None, refl, sym, ap, ◌∙◌, subst, inl, inr, append_assoc, drop-cons, length-append, arith}
 use Rattle.std.specs.Int.{bit_at}
 use Rattle.std.specs.List.{AllByRecursion, slice_get}
 use Rattle.std.proofs.lemmas.List.{append-nil}
-use Rattle.std.proofs.Math.Seq.{take-append_seam}
 use Rattle.rht_words.specs.declared.env.Env.{Env}
-use Rattle.rht_words.specs.declared.machine.Next.{Next}
 use Rattle.rht_words.specs.declared.machine.Next.TheVariants.{Go, Done}
 use Rattle.rht_words.specs.Operations.{old_of}
 use Rattle.rht_words.proofs.EachElement.{AllByRecursion-append, AllByRecursion-weaker, slice_get-push_last}
@@ -19,43 +17,34 @@ use Rattle.rht_model.specs.declared.history.Reply.{Reply}
 use Rattle.rht_model.specs.declared.history.Reply.TheVariants.{Clear, Pending}
 use Rattle.rht_model.specs.Endings.{Ending, ended_with}
 use Rattle.rht_arena.specs.Laws.{map_bit}
-use Rattle.rht_find.specs.Find.{find_after}
-use Rattle.rht_bind.specs.Bind.{bind_after}
-use Rattle.rht_release.specs.All.{all_after}
-use Rattle.rht_release.specs.Release.{release_after}
-use Rattle.rht_release.specs.Rebind.{rebind_after}
-use Rattle.rht_move.specs.Work.{work_after}
-use Rattle.rht_walk.specs.Walk.{walk_after}
 use Rattle.rht_grace.specs.Batch.{BatchModel}
 use Rattle.rht_grace.specs.Tidy.{TidyModel, tidy_new, plan_at, after_at, moved}
 use Rattle.rht_grace.specs.declared.tidy.TidyAt.TheVariants as at
 use Rattle.rht_callers.specs.declared.local.Local.{Local}
 use Rattle.rht_callers.specs.declared.local.Doing.{Doing}
-use Rattle.rht_callers.specs.declared.local.Doing.TheVariants.{Idle, Finding, Binding, Listing, Releasing, Rebinding, Working, Counting, Tidying, Walking}
+use Rattle.rht_callers.specs.declared.local.Doing.TheVariants.{Tidying}
 use Rattle.rht_callers.specs.Batches.{batch_room, batch_given, batch_after, nodes_left}
 use Rattle.rht_callers.proofs.BatchesOfCallers.{idle-batch}
-use Rattle.rht_callers.specs.PortCounts.{count_after}
-use Rattle.rht_callers.specs.Locals.{does_nothing, is_idle, machine_of, doing_next, doing_after, local_after, ending_of, without_node, IsDoingOf}
+use Rattle.rht_callers.specs.Locals.{does_nothing, is_idle, machine_of, doing_next, doing_after, local_after, ending_of, IsDoingOf}
 use Rattle.rht_callers.proofs.CallBeginnings.{begins_so}
 use Rattle.rht_core.specs.declared.event.Event.{Event}
 use Rattle.rht_core.specs.declared.event.Event.TheVariants.{Begin, Step}
 use Rattle.rht_core.specs.Laws.{view_begun}
 use Rattle.rht_core.specs.Jobs.{tidies, job_of, job_plan}
-use Rattle.rht_core.specs.Runs.{Core, World, View, run_of, local_of, planned_in, view_of, finished_with, book_after, IsAdmitted}
+use Rattle.rht_core.specs.Runs.{Core, World, View, run_of, local_of, view_of, finished_with, book_after, IsAdmitted}
 use Rattle.rht_core.specs.Lookups.{TidiesSoon}
-use Rattle.rht_core.specs.Tidied.{GivesNode, TidiesRightly, HasTidied, Tidied, Rests, batch_of, batch_or, batch_before}
+use Rattle.rht_core.specs.Tidied.{GivesNode, TidiesRightly, HasTidied, Tidied, Rests, batch_or, batch_before}
 use Rattle.rht_core.specs.Tidyings.{IsTidyingIn}
 use Rattle.rht_core.specs.Traces.{Did, Past, Trace, performed_of, traced_of, trace_begun, trace_did, behind_call, behind_steps}
 use Rattle.rht_core.proofs.Events.BatchesInRuns.{AreSound, sound_before}
 use Rattle.rht_core.proofs.Events.BusyCallers.{begun_busy, goes_on, ends}
 use Rattle.rht_core.proofs.Events.OwnBatches.{is_tidying}
-use Rattle.rht_core.proofs.Events.Worlds.{run_of-push, step_self, planned-some}
-use Rattle.rht_core.proofs.Events.JobsOfCallers.{nothing-job, is_no_job}
-use Rattle.rht_core.proofs.Events.SoundRuns.{has_place, runs-in}
+use Rattle.rht_core.proofs.Events.SoundRuns.{runs-in}
 use Rattle.rht_core.proofs.Machines.JobSteps.{JobIn, JobKnows}
 use Rattle.rht_core.proofs.Machines.TidyRanges.{Came, waiting_low}
 use Rattle.rht_core.proofs.Machines.TidySteps.{OwnsNodes}
 use Rattle.rht_core.proofs.Undoing.GoingBack.{clear_where}
+use Rattle.rht_core.proofs.Tracing.BatchesAtEvents.{stays-other, own_of, of-core, batch-next, batch-behind, made-busy}
 use Rattle.rht_core.proofs.Tracing.TidiedBatches.{HasCome, ComesTo, EndsSo, RunsOn, comes, runs_on, ends_rightly, is_soon, begins_so as tidy_begins}
 use Rattle.rht_core.proofs.Tracing.TracedCallers.{IsMade, IsKeptTraced, traced_callers_keep}
 use Rattle.rht_core.proofs.Tracing.TracedRuns.{world-traced_of}
@@ -68,30 +57,6 @@ use Rattle.rht_words.specs.Places.{NodeMap, word_at}
 use Rattle.rht_words.proofs.Members.{in-middle}
 
 module _ (M : Type 0) (mix : ℕ → ℕ → ℕ → ℕ) (env : Env) where
-  -- ---- who tidies
-
-  abbrev IsNone : Doing M → Type 0
-  IsNone doing = (m : TidyModel) → doing ≡ Tidying m → ⊥
-
-  next-other : {A : Type 0} (doing : A → Doing M) → ((a : A) → IsNone (doing a)) → (r : A × Next Reply) → IsNone (doing_next doing r).0
-  next-other doing none (a, Go) = none a
-  next-other doing none (a, Done reply) = λ m is. cc
-
-  -- who doesn't, doesn't behind an operation
-  stays-other : (doing : Doing M) (old : ℕ) → IsNone doing → IsNone (doing_after mix doing old).0
-  stays-other Idle old none = λ m is. cc
-  stays-other (Finding m) old none = next-other Finding (λ a m is. cc) (find_after mix m old)
-  stays-other (Binding m) old none = next-other Binding (λ a m is. cc) (bind_after mix m old)
-  stays-other (Listing m) old none = next-other Listing (λ a m is. cc) (all_after mix m old)
-  stays-other (Releasing m) old none =
-      let next = release_after mix m old in next-other Releasing (λ a m is. cc) (next.0, without_node next.1)
-  stays-other (Rebinding m) old none =
-      let next = rebind_after mix m old in next-other Rebinding (λ a m is. cc) (next.0, without_node next.1)
-  stays-other (Working m) old none = next-other Working (λ a m is. cc) (work_after mix m old)
-  stays-other (Counting m) old none = next-other Counting (λ a m is. cc) (count_after m old)
-  stays-other (Walking m) old none = next-other Walking (λ a m is. cc) (walk_after m old)
-  stays-other (Tidying m) old none = absurd (none m refl)
-
   module _ (events : List Event) (c : ℕ) (sound : AreSound env mix M events c) where
     abbrev batch_at : ℕ → BatchModel
     batch_at index = batch_before M mix env events c index
@@ -102,10 +67,6 @@ module _ (M : Type 0) (mix : ℕ → ℕ → ℕ → ℕ) (env : Env) where
 
     abbrev ComesOn : BatchModel → List Did → Came → Type 0
     ComesOn own steps came = ComesTo env.geometry own steps came × RunsOn env.geometry own steps came
-
-    -- the batch of this caller, by what it does
-    abbrev own_of : Local M → BatchModel
-    own_of local = batch_or env.geometry (batch_room local.doing local.batch)
 
     -- ---- what is kept
 
@@ -122,17 +83,10 @@ module _ (M : Type 0) (mix : ℕ → ℕ → ℕ → ℕ) (env : Env) where
       now : (m : TidyModel) → view.local.doing ≡ Tidying m → IsOn (batch_at trace.begin) m trace.steps
       called : is_idle view.local ≡ false → (call : Call) × (view.book.call ≡ Some call)
       rested : is_idle view.local ≡ true → (i : ℕ) (last : Past) → slice_get trace.past i ≡ Some last → length trace.past ≡ i + 1
-          → batch_at (behind_call last) ≡ own_of view.local
+          → batch_at (behind_call last) ≡ own_of M mix env view.local
 
     abbrev KeepsSoFar : List Event → ℕ → View M → Trace → Type 0
     KeepsSoFar so_far caller view trace = caller ≡ c → (rest : List Event) → events ≡ so_far ++ rest → Keeps view trace
-
-    -- the batch before the next event, and behind all so far
-    batch-next : (so_far rest : List Event) → events ≡ so_far ++ rest → (index : ℕ) → index ≡ length so_far
-        → batch_at index ≡ batch_of (run_of {M = M} mix env so_far).core c
-    batch-next so_far rest all index is =
-        ap (λ es. batch_of (run_of {M = M} mix env es).core c)
-        (ap (λ n. take n events) is ∙ ap (take (length so_far)) all ∙ take-append_seam so_far rest)
 
     -- ---- a call begins
 
@@ -159,11 +113,6 @@ module _ (M : Type 0) (mix : ℕ → ℕ → ℕ → ℕ) (env : Env) where
         (tidy_begins env.geometry own, λ olds. refl)))
         (λ from limit m is. absurd (cc))
 
-    of-core : (core : Core M) (local : Local M) → core.env ≡ env → local_of core c ≡ local → batch_of core c ≡ own_of local
-    of-core core local same here =
-        ap (λ (e : Env). batch_or e.geometry (batch_room (local_of core c).doing (local_of core c).batch)) same
-        ∙ ap own_of here
-
     begin-keeps : (so_far rest : List Event) (call : Call) (machine : Doing M) (index : ℕ) (view : View M) (trace : Trace)
         → events ≡ so_far ++ rest → index ≡ length so_far → view_of (traced_of {M = M} mix env so_far).world c ≡ view
         → is_idle view.local ≡ true → machine_of env c view.local.batch call ≡ Some machine → Keeps view trace
@@ -174,7 +123,7 @@ module _ (M : Type 0) (mix : ℕ → ℕ → ℕ → ℕ) (env : Env) where
         let here : local_of (run_of {M = M} mix env so_far).core c ≡ view.local =
         ap (λ (core : Core M). local_of core c) (sym run) ∙ ap (λ (v : View M). v.local) now in
         let own : batch_at index ≡ batch_or env.geometry view.local.batch =
-        batch-next so_far rest all index at ∙ of-core (run_of {M = M} mix env so_far).core view.local stays.same_env here
+        batch-next M mix env events c so_far rest all index at ∙ of-core M mix env c (run_of {M = M} mix env so_far).core view.local stays.same_env here
         ∙ ap (batch_or env.geometry) (idle-batch M (λ batch. batch_room view.local.doing view.local.batch ≡ batch) view.local idle refl) in
         record {
           past = keeps.past;
@@ -192,47 +141,15 @@ module _ (M : Type 0) (mix : ℕ → ℕ → ℕ → ℕ) (env : Env) where
       abbrev steps : List Did
       steps = trace.steps ++ did ∷ []
 
-      abbrev run : Core M
-      run = (run_of {M = M} mix env so_far).core
-
-      abbrev more : List Event
-      more = so_far ++ Step c ∷ []
-
-      all-more : events ≡ more ++ rest
-      all-more = all ∙ sym (append_assoc so_far (Step c ∷ []) rest)
-
-      here : local_of run c ≡ view.local
-      here = ap (λ (core : Core M). local_of core c) (sym made.now) ∙ made.known.here
-
-      found : did.old ≡ old_of run.words did.op
-      found = made.known.found ∙ ap (λ (core : Core M). old_of core.words did.op) made.now
-
-      planned : planned_in run c ≡ Some did.op
-      planned =
-          ap (λ es. planned_in (run_of {M = M} mix env es).core c)
-          (sym (ap (λ n. take n more) made.index ∙ take-append_seam so_far (Step c ∷ []))) ∙ made.recorded.plan
-
-      local-then : local_of (run_of {M = M} mix env more).core c ≡ (local_after mix view.local did.old).0
-      local-then =
-          let can = planned-some run.env run.enrolled run.locals c did.op planned in
-          ap (λ (w : World M). local_of w.core c) (run_of-push M mix env so_far (Step c))
-          ∙ ap (λ (v : View M). v.local)
-          (step_self M mix (run_of {M = M} mix env so_far) c did.op planned (has_place M mix env run c (runs-in M mix env so_far) can.below))
-          ∙ ap (λ old. (local_after mix (local_of run c) old).0) (sym found)
-          ∙ ap (λ local. (local_after mix local did.old).0) here
-
       abbrev next : Local M × Option Reply
       next = local_after mix view.local did.old
 
-      behind-is : batch_at (did.index + 1) ≡ own_of next.0
-      behind-is =
-          batch-next more rest all-more (did.index + 1) (let at = made.index in let long = length-append so_far (Step c ∷ []) in omega (arith, at, long))
-          ∙ of-core (run_of {M = M} mix env more).core next.0 (runs-in M mix env more).same_env local-then
+      behind-is : batch_at (did.index + 1) ≡ own_of M mix env next.0
+      behind-is = batch-behind M mix env events c so_far rest all did view.local made
 
       -- it is in a call
       busy : is_idle view.local ≡ false
-      busy = subst (λ (local : Local M). is_idle local ≡ false) made.known.here
-          (nothing-job (local_of made.known.core c).doing ∙ ap is_no_job made.known.step.is)
+      busy = made-busy M mix env events c so_far rest all did view.local made
 
       -- what a tidying comes to
       module _ (m : TidyModel) (same : view.local.doing ≡ Tidying m) where
@@ -327,7 +244,7 @@ module _ (M : Type 0) (mix : ℕ → ℕ → ℕ → ℕ) (env : Env) where
           | inl was ↦
               left_come was.0 (came was.0 was.1) (came_so was.0 was.1) (sym (ap (λ d. d.1) (goes_so was.0 was.1)) ∙ none) other
               (sym (ap (λ d. d.0) (goes_so was.0 was.1)) ∙ is)
-          | inr none_before ↦ absurd (stays-other view.local.doing did.old none_before other is)
+          | inr none_before ↦ absurd (stays-other M mix env view.local.doing did.old none_before other is)
         ];
         called = λ still. keeps.called busy;
         rested = λ idle_now i last place long. absurd (let still = goes_on M mix view.local did.old busy none in cc);
@@ -439,7 +356,7 @@ module _ (M : Type 0) (mix : ℕ → ℕ → ℕ → ℕ) (env : Env) where
           -- the last one ended at this operation, behind which the batch is the caller's
           rested_then : (call : Call) × (view.book.call ≡ Some call) → (i : ℕ) (last : Past)
               → slice_get (past_then ending view.book.call) i ≡ Some last → length (past_then ending view.book.call) ≡ i + 1
-              → batch_at (behind_call last) ≡ own_of next.0
+              → batch_at (behind_call last) ≡ own_of M mix env next.0
           rested_then (call, is) i last place long =
               let past : Past = record { done = ended_with call ending; begin = trace.begin; steps = steps } in
               let count : length (past_then ending (Some call)) ≡ i + 1 =
@@ -529,6 +446,6 @@ rests M mix env events c admitted idle i last place long =
     let world = world-traced_of M mix env events in
     let here : (view_of (traced_of {M = M} mix env events).world c).local ≡ local_of (run_of {M = M} mix env events).core c =
     ap (λ (w : World M). (view_of w c).local) world in
-    of-core M mix env events c sound (run_of {M = M} mix env events).core (view_of (traced_of {M = M} mix env events).world c).local
+    of-core M mix env c (run_of {M = M} mix env events).core (view_of (traced_of {M = M} mix env events).world c).local
     (runs-in M mix env events).same_env (sym here)
     ∙ sym (kept.rested (ap is_idle here ∙ idle) i last place long)
