@@ -208,6 +208,11 @@ uint32_t rht_bind_once_begin(rht_handle *handle, rht_port port, uint32_t owner, 
 /* Takes one binding of the port to the owner out: RHT_RELEASED, RHT_ABSENT. */
 uint32_t rht_release_begin(rht_handle *handle, rht_port port, uint32_t owner, rht_reply *reply);
 
+/* The same in one go: all its operations, as long as it need not wait. Where another handle holds a bucket's lock it
+ * looks so many rounds for it, and then leaves off: RHT_NOT_YET, from which rht_go_on goes on. With rounds 0 it leaves
+ * off before each lock. It does so too before a table's part that is seldom there. */
+uint32_t rht_release_in(rht_handle *handle, rht_port port, uint32_t owner, uint32_t rounds, rht_reply *reply);
+
 /* Puts a new owner in the place of the port's first owner that is this one: RHT_REBOUND, RHT_ABSENT, RHT_NO_NODE. */
 uint32_t rht_rebind_begin(rht_handle *handle, rht_port port, uint32_t owner, uint32_t with, rht_reply *reply);
 
@@ -241,6 +246,11 @@ size_t rht_pairs(rht_handle *handle, size_t skip, rht_pair *into, size_t room);
 #define RHT_YIELD() ((void)0)
 #endif
 
+/* So many rounds a call in one go looks for a lock before it leaves off. */
+#ifndef RHT_ROUNDS
+#define RHT_ROUNDS 64
+#endif
+
 /* Goes on with a call that has come to this code, until it has ended. */
 static inline uint32_t rht_finish(rht_handle *handle, uint32_t code, rht_reply *reply)
 {
@@ -264,7 +274,7 @@ static inline uint32_t rht_bind_once(rht_handle *handle, rht_port port, uint32_t
 
 static inline uint32_t rht_release(rht_handle *handle, rht_port port, uint32_t owner, rht_reply *reply)
 {
-    return rht_finish(handle, rht_release_begin(handle, port, owner, reply), reply);
+    return rht_finish(handle, rht_release_in(handle, port, owner, RHT_ROUNDS, reply), reply);
 }
 
 static inline uint32_t rht_rebind(rht_handle *handle, rht_port port, uint32_t owner, uint32_t with, rht_reply *reply)

@@ -15,7 +15,7 @@ use Rattle.rht_session.specs.declared.plain.CClosed.{CClosed}
 use Rattle.rht_session.specs.declared.plain.CConfig.{CConfig}
 use Rattle.rht_session.specs.declared.plain.CReply.{CReply}
 use Rattle.rht_session.specs.Plain.{config_said, c_config}
-use Rattle.rht_session.specs.Sessions.{Ends, LooksUp, Begins}
+use Rattle.rht_session.specs.Sessions.{Ends, LooksUp, Begins, SetsOut}
 use Rattle.rht_session.specs.Closings.{HaveClosed, IsWhyNotClosed}
 use Rattle.rht_session.specs.Handles.{sessions_of, is_blank, IsBlank, HadFree, IsFitHandle, IsNotFree, IsAnswered, IsGoneOn, Shows, AreToOpen, AreOpenedHandles, IsWhyNotOpened}
 use Rattle.rht_session.specs.Told.{opening_code, closing_code, IsTold, IsToldWhole, IsToldFound, IsToldClosed}
@@ -69,6 +69,13 @@ pub record HasBegun (call : Call) (before : Handle) (reply_before : CReply) (cod
   pub answer : Result (Option Reply) Refused
   pub told : IsTold answer code reply_before reply_after
   pub made : IsAnswered (Begins call) before answer after
+
+-- a call was set out on, in one go, or that was refused
+pub record HasSetOut (call : Call) (before : Handle) (reply_before : CReply) (code : ℕ) (reply_after : CReply) (after : Handle)
+    : Type 0 where
+  pub answer : Result (Option Reply) Refused
+  pub told : IsTold answer code reply_before reply_after
+  pub made : IsAnswered (SetsOut call) before answer after
 
 -- the call in progress was gone on with by so many operations at most, or that was refused
 pub record HasGoneOn (most : ℕ) (before : Handle) (reply_before : CReply) (code : ℕ) (reply_after : CReply) (after : Handle)

@@ -5,7 +5,7 @@ ghost use Rattle.std.specs.Prelude.{◌≡◌, true, false};
 ghost use Rattle.rht_model.specs.declared.history.Call.TheVariants.{Bind, Release, Rebind, All, Work};
 ghost use Rattle.rht_session.specs.Plain.{port_said};
 ghost use Rattle.rht_session.specs.Handles.{IsFitHandle};
-ghost use Rattle.rht_c.specs.Exports.{HasBegun, HasGoneOn};
+ghost use Rattle.rht_c.specs.Exports.{HasBegun, HasSetOut, HasGoneOn};
 
 use rht_model::Call;
 use rht_session::{CPort, CReply, Handle, told};
@@ -64,6 +64,23 @@ pub extern "C" fn rht_release_begin(
 {
     let port = port.port();
     told(handle.begin(Call::Release { port, owner }), reply)
+}
+
+/// Takes a binding out in one go, as `Table::release` does, with so many rounds at most at the lock of a bucket.
+#[unsafe(no_mangle)]
+pub extern "C" fn rht_release_in(
+    handle: &mut Handle,
+    port: CPort,
+    owner: u32,
+    rounds: u32,
+    reply: &mut CReply,
+) -> u32
+    requires { IsFitHandle handle.old }
+    ensures fit { IsFitHandle handle.new }
+    ensures set_out { HasSetOut (Release (port_said port) owner) handle.old reply.old result reply.new handle.new }
+{
+    let port = port.port();
+    told(handle.set_out(Call::Release { port, owner }, rounds), reply)
 }
 
 /// Begins to put a new owner in the place of this one, as `Table::rebind` does.

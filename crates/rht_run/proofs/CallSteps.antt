@@ -10,14 +10,14 @@ use Rattle.rht_release.specs.Rebind.{rebind_new}
 use Rattle.rht_model.specs.declared.history.Call.{Call}
 use Rattle.rht_model.specs.declared.history.Call.TheVariants.{Rebind}
 use Rattle.rht_model.specs.declared.history.Reply.{Reply}
-use Rattle.rht_model.specs.declared.history.Reply.TheVariants.{Found, Missing, Released, Absent}
+use Rattle.rht_model.specs.declared.history.Reply.TheVariants.{Found, Missing}
 use Rattle.rht_model.specs.declared.finished.Finished.{Finished}
 use Rattle.rht_core.specs.declared.book.Book.{Book}
 use Rattle.rht_callers.specs.declared.local.Local.{Local}
 use Rattle.rht_callers.specs.declared.local.Doing.TheVariants.{Idle, Rebinding}
 use Rattle.rht_core.specs.Locals.{is_idle, local_after, ending_of}
 use Rattle.rht_core.specs.Runs.{View, book_after}
-use Rattle.rht_core.specs.Replies.{IsRightlyAnswered, IsFindReply, IsReleaseReply, AnswersIn, owners_with, pairs_with}
+use Rattle.rht_core.specs.Replies.{IsRightlyAnswered, IsFindReply, AnswersIn, owners_with, pairs_with}
 use Rattle.rht_core.proofs.Events.BusyCallers.{goes_on, ends}
 use Rattle.rht_core.proofs.Tracing.RepliesInRuns.{replies}
 use Rattle.rht_run.specs.declared.table.Table.{Table}
@@ -25,7 +25,7 @@ use Rattle.rht_run.specs.declared.pass.Pass.{Pass}
 use Rattle.rht_run.specs.Rule.{MayBegin, CanGo, book_then, local_then}
 use Rattle.rht_run.specs.declared.seats.SeatView.{SeatView}
 use Rattle.rht_run.specs.Passes.{IsPassOf, IsSamePass, HasGone, HasCalled, Turned, book_of}
-use Rattle.rht_run.specs.Rides.{Riding, riding_pass, handed, HasEndedWith, looked_up, owner_in, released, kick_in}
+use Rattle.rht_run.specs.Rides.{Riding, riding_pass, handed, HasEndedWith, looked_up, owner_in}
 use Rattle.rht_run.proofs.Performed.{busy_then, of_run}
 
 -- the last of some calls, each of which was answered
@@ -39,12 +39,6 @@ pub looked_up-owner_in : (reply : Reply) → IsFindReply reply → looked_up (ow
 looked_up-owner_in (Found owner) is = refl
 looked_up-owner_in Missing is = refl
 looked_up-owner_in _ is = absurd (is)
-
--- a release's reply is what it has come to
-pub released-kick_in : (reply : Reply) → IsReleaseReply reply → released (kick_in reply) ≡ reply
-released-kick_in (Released kick) is = refl
-released-kick_in Absent is = refl
-released-kick_in _ is = absurd (is)
 
 module _ {M : Type 0} where
   module _ (mix : ℕ → ℕ → ℕ → ℕ) (t : Table M) (before p after : Pass M) (begins : Option Call) (call : Call) (steps : ℕ)

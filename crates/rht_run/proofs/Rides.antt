@@ -32,7 +32,7 @@ use Rattle.rht_run.specs.declared.seats.SeatView.{SeatView}
 use Rattle.rht_run.specs.declared.table.Table.{Table}
 use Rattle.rht_run.specs.declared.pass.Pass.{Pass}
 use Rattle.rht_run.specs.Rule.{Went, book_then, local_then, held_then, held_stepped}
-use Rattle.rht_run.specs.Passes.{CanPerform, IsSameSeat, IsPassOf, HasCalled, book_in, book_of}
+use Rattle.rht_run.specs.Passes.{CanPerform, IsSameSeat, IsPassOf, IsCalling, HasCalled, book_in, book_of}
 use Rattle.rht_run.specs.Rides.{Riding, riding_of, riding_local, riding_pass, owners_in, pairs_in, batch_in, batch_with, handed, IsBefore, IsRiding, HasEnded, HasEndedWith, Stepped, HasCounted, piece_next, ended, replied, driven}
 use Rattle.rht_run.proofs.Performed.{local_in, number_few, ready, still}
 
@@ -313,6 +313,31 @@ module _ {M : Type 0} (mix : ℕ → ℕ → ℕ → ℕ) (t : Table M) (p : Pas
           idle = ap is_idle here;
           finished = ended.finished
               ∙ ap (λ (l : Local M). r.finished ++ record { call = call; reply = reply; owners = l.owners.items; pairs = l.pairs.items } ∷ []) (sym here);
+        }
+
+    -- behind operations that have left it in the middle of the call the pass is in that
+    pub left_in : (after : Pass M) (doing : Doing M) → after.number ≡ p.number
+        → after.local
+        ≡ record p.local { doing = doing; owners = emptied p.local.owners; pairs = emptied p.local.pairs }
+        → does_nothing doing ≡ false → IsRiding mix t (riding_of p.number call p.seat) doing after.seat
+        → IsCalling mix t call (book_of after).steps p after
+    left_in after doing number local busy riding =
+        let r : Riding = riding_of p.number call p.seat in
+        let here : after.local ≡ riding_local r doing =
+        local
+        ∙ (λ i. record {
+          doing = doing;
+          owners = ap (λ (hs : List (Held M)). emptied (owners_in hs)) (sym is.held) i;
+          pairs = ap (λ (hs : List (Held M)). emptied (pairs_in hs)) (sym is.held) i;
+          batch = ap (λ (hs : List (Held M)). batch_in hs) (sym is.held) i;
+        }) in
+        let same : riding_pass r doing after.seat ≡ after =
+        λ i. record { seat = after.seat; number = sym number i; local = sym here i } in
+        record {
+          pass = subst (IsPassOf mix t) same riding.pass;
+          same = record { table = riding.pass.table ∙ sym is.table; number = number };
+          busy = ap is_idle here ∙ busy;
+          book = λ i. record { call = riding.call i; steps = (book_of after).steps; finished = riding.finished i };
         }
 
     -- most calls take no node out

@@ -1,5 +1,5 @@
 -- A call that is driven from outside its pass: the seat's view has what the caller does, and no machine of the call is kept.
-use Rattle.std.specs.Prelude.{◌≡◌, ℕ, ◌+◌, Bool, true, Option, Some, None, List, [], ◌∷◌, ◌++◌}
+use Rattle.std.specs.Prelude.{◌≡◌, ℕ, ◌+◌, Bool, true, Option, Some, None, Result, Ok, Err, List, [], ◌∷◌, ◌++◌}
 use Rattle.atomic_table.specs.declared.shared.Seat.{Seat}
 use Rattle.rht_words.specs.declared.machine.Next.{Next}
 use Rattle.rht_words.specs.declared.machine.Next.TheVariants.{Go, Done}
@@ -143,11 +143,6 @@ abbrev pub released : Option Bool → Reply
 released None = Absent
 released (Some kick) = Released kick
 
--- and what it has come to, in its reply; any other reply counts as `Absent`
-abbrev pub kick_in : Reply → Option Bool
-kick_in (Released kick) = Some kick
-kick_in _ = None
-
 -- after an operation: what the caller does, and where the call has ended, its reply and the node that it took out
 abbrev pub Stepped : {M : Type 0} → (ℕ → ℕ → ℕ → ℕ) → Table M → Riding → Doing M × Option (Reply × Option ℕ)
     → Seat (Unit {0}) (SeatView M) → Type 0
@@ -164,6 +159,12 @@ abbrev pub piece_next : {M P A : Type 0} → (P → Doing M) → (A → Doing M 
     → Doing M × Option (Reply × Option ℕ)
 piece_next holding behind (piece, Go) = (holding piece, None)
 piece_next holding behind (piece, Done answer) = behind answer
+
+-- a piece that is driven in straight code comes to its answer, or is left where it stands
+abbrev pub come_to : {M P A : Type 0} → (P → Doing M) → (A → Doing M × Option (Reply × Option ℕ)) → Result A P
+    → Doing M × Option (Reply × Option ℕ)
+come_to holding behind (Ok answer) = behind answer
+come_to holding behind (Err piece) = (holding piece, None)
 
 module _ {M : Type 0} where
   -- behind its end a call's caller is in none; most calls end with a reply alone

@@ -1,5 +1,5 @@
 -- The way to a port as a piece.
-use Rattle.std.specs.Prelude.{◌≡◌, ℕ, refl, Option, None, Some}
+use Rattle.std.specs.Prelude.{◌≡◌, ℕ, refl, Bool, Option, None, Some, Result}
 use Rattle.rht_words.specs.declared.env.Env.{Env}
 use Rattle.rht_words.specs.declared.geometry.Geometry.{Geometry}
 use Rattle.rht_words.specs.declared.machine.Next.{Next}
@@ -30,7 +30,7 @@ use Rattle.rht_callers.specs.declared.local.Doing.TheVariants.{Releasing, Rebind
 use Rattle.rht_run.specs.declared.pieces.PortLocate.{PortLocate}
 use Rattle.rht_run.specs.declared.pieces.PortLocated.{PortLocated}
 use Rattle.rht_run.specs.declared.seeks.PortSeek.{PortSeek}
-use Rattle.rht_run.specs.Rides.{piece_next, ended, replied}
+use Rattle.rht_run.specs.Rides.{piece_next, come_to, released, ended, replied}
 use Rattle.rht_run.specs.declared.seeking.Sought.{Sought}
 use Rattle.rht_run.specs.declared.seeking.Sought.TheVariants as sought
 use Rattle.rht_run.specs.Pieces.{locate_told, nested_locate}
@@ -50,6 +50,7 @@ sought_then holding behind g port (sought.Found found) = behind (port, Some foun
 sought_then holding behind g port sought.Nowhere = behind (port, None)
 sought_then holding behind g port (sought.Nested table shape bucket) =
     (holding (record { port = port; seek = nested_seek g table shape bucket }), None)
+sought_then holding behind g port (sought.Left at) = (holding (port_seek g port at), None)
 
 -- and says this, of the port
 abbrev pub sought_of : ℕ → Next (Option FoundPort) → Next (ℕ × Option FoundPort)
@@ -134,6 +135,11 @@ module _ {M : Type 0} where
   release_seeking env caller port owner (seek, Go) = refl
   release_seeking env caller port owner (seek, Done None) = refl
   release_seeking env caller port owner (seek, Done (Some found)) = refl
+
+  -- and in straight code it has come to its end, with this node taken out, or none; or it was left here
+  abbrev pub release_came : Env → ℕ → ℕ → ℕ → Result (Option Bool × Option ℕ) ReleaseAt → Doing M × Option (Reply × Option ℕ)
+  release_came env caller port owner came =
+      come_to (λ at. release_at env caller port owner at) (λ (end : Option Bool × Option ℕ). ended (released end.0, end.1)) came
 
   -- ---- the rebind
 

@@ -103,7 +103,9 @@ impl<M: Mix> Table<M> {
                 shape,
             };
             let key = word_of(port);
-            let Some(probed) = self.probe::<K, BindProbing>(seat, &frame, starts, place, key) else {
+            let rounds = u64::MAX;
+            let Ok(probed) = self.probe::<K, BindProbing>(seat, &frame, starts, place, key, rounds)
+            else {
                 never(rt);
                 unreachable!()
             };

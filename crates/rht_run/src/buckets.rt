@@ -1,12 +1,12 @@
 //! Taking the lock of a bucket and walking its chain, in whatever machine does so.
 
-ghost use Rattle.std.specs.Prelude.{◌≡◌, ◌<◌, IfSome};
+ghost use Rattle.std.specs.Prelude.{◌≡◌, ◌<◌, MatchOption};
 ghost use Rattle.rht_chain.specs.Lock.{lock_new};
 ghost use Rattle.rht_chain.specs.Probe.{probe_new, probe_plan_at, probe_after};
 ghost use Rattle.rht_chain.specs.declared.locked_walk.LockedWalkAt.TheVariants.{Key};
 ghost use Rattle.rht_chain.specs.declared.probe.ProbeAt.TheVariants as at;
 ghost use Rattle.rht_run.specs.Layout.{physical_place};
-ghost use Rattle.rht_run.specs.Rides.{IsRiding, Stepped, piece_next};
+ghost use Rattle.rht_run.specs.Rides.{IsRiding, Stepped, piece_next, come_to};
 
 use crate::pieces::{Frame, ProbeLocking};
 use crate::ride::Ride;
@@ -19,9 +19,9 @@ use rht_policy::Mix;
 use rht_words::{Next, Start, head_of, is_locked, node_of};
 
 impl<M: Mix> Table<M> {
-    /// Locks the bucket at this place, and walks its chain to the first node with the key. `None` comes
-    /// behind 2^64 - 1 rounds, which no run uses up: so the caller waits for ever there, and this function
-    /// needs no leave to wait.
+    /// Locks the bucket at this place, in so many rounds at most, and walks its chain to the first node with
+    /// the key. Where the lock wasn't had in these rounds, or behind 2^64 - 1 nodes, which no run has, it
+    /// leaves off, and gives the probe as it stands there.
     #[inline(always)]
     pub(crate) fn probe<K: Ride, F: Frame<M, Probe, Probed>>(
         &self,
@@ -30,17 +30,19 @@ impl<M: Mix> Table<M> {
         starts: Starts,
         place: usize,
         key: u64,
-    ) -> Option<Probed>
+        rounds: u64,
+    ) -> Result<Probed, Probe>
         requires { IsRiding M.mix_of self.now K.riding (F.holding frame.now (probe_new starts.geometry place key)) seat.old }
-        ensures { IfSome result (λ end. Stepped M.mix_of self.now K.riding (F.behind frame.now end) seat.new) }
+        ensures { Stepped M.mix_of self.now K.riding (come_to (λ p. F.holding frame.now p) (λ a. F.behind frame.now a) result) seat.new }
     {
         let probe = Probe::new(starts.geometry, place, key);
         let locking = ProbeLocking {
             frame,
             probe: &probe,
         };
-        let Some(bucket) = self.take_lock::<K, ProbeLocking<F>>(seat, &locking, place) else {
-            return None;
+        let Some(bucket) = self.take_lock::<K, ProbeLocking<F>>(seat, &locking, place, rounds)
+        else {
+            return Err(probe);
         };
         let Locked { place, word } = bucket;
         match LockedWalk::new(starts.geometry, place, word, key) {
@@ -50,24 +52,25 @@ impl<M: Mix> Table<M> {
                 };
                 self.walk_locked::<K, F>(seat, frame, &probe, bucket, walk, starts, node)
             }
-            Start::Done(seen) => Some(Probed { bucket, seen }),
+            Start::Done(seen) => Ok(Probed { bucket, seen }),
         }
     }
 
-    /// Takes the lock of the bucket at this place. A round ends without it where the word was found
-    /// locked, or was another one at the exchange. Each round begins with the lock's first state, so
-    /// the compiler keeps no state of it.
+    /// Takes the lock of the bucket at this place, in so many rounds at most. A round ends without it where
+    /// the word was found locked, or was another one at the exchange. Each round begins with the lock's
+    /// first state, so the compiler keeps no state of it. There the lock stands behind the last one, too.
     #[inline(always)]
     pub(crate) fn take_lock<K: Ride, F: Frame<M, Lock, Locked>>(
         &self,
         seat: &mut Seat<(), SeatView<M>>,
         frame: &F,
         place: usize,
+        rounds: u64,
     ) -> Option<Locked>
         requires { IsRiding M.mix_of self.now K.riding (F.holding frame.now (lock_new place)) seat.old }
-        ensures { IfSome result (λ bucket. Stepped M.mix_of self.now K.riding (F.behind frame.now bucket) seat.new) }
+        ensures { MatchOption result (IsRiding M.mix_of self.now K.riding (F.holding frame.now (lock_new place)) seat.new) (λ bucket. Stepped M.mix_of self.now K.riding (F.behind frame.now bucket) seat.new) }
     {
-        for _ in 0..u64::MAX {
+        for _ in 0..rounds {
             let lock = Lock::new(place);
             let word = self.operate::<K, Locked, Lock, F>(seat, frame, &lock);
             if is_locked(word) {
@@ -94,11 +97,11 @@ impl<M: Mix> Table<M> {
         walk: LockedWalk,
         starts: Starts,
         node: u32,
-    ) -> Option<Probed>
+    ) -> Result<Probed, Probe>
         requires starts { walk.geometry ≡ starts.geometry }
         requires node { node < starts.geometry.nodes }
         requires riding { IsRiding M.mix_of self.now K.riding (F.holding frame.now (record probe.now { at = at.Walking bucket (record walk { at = Key node }) })) seat.old }
-        ensures { IfSome result (λ end. Stepped M.mix_of self.now K.riding (F.behind frame.now end) seat.new) }
+        ensures { Stepped M.mix_of self.now K.riding (come_to (λ p. F.holding frame.now p) (λ a. F.behind frame.now a) result) seat.new }
     {
         let mut walk = walk;
         let mut node = node;
@@ -108,14 +111,14 @@ impl<M: Mix> Table<M> {
             let key = self.probing::<K, F>(seat, frame, probe, at, starts.key(node));
             let (next, answer) = walk.after(key);
             if let Next::Done(seen) = answer {
-                return Some(Probed { bucket, seen });
+                return Ok(Probed { bucket, seen });
             }
             walk = next;
             let at = ProbeAt::Walking { bucket, walk };
             let link = self.probing::<K, F>(seat, frame, probe, at, starts.chain_link(node));
             let (next, answer) = walk.after(link);
             if let Next::Done(seen) = answer {
-                return Some(Probed { bucket, seen });
+                return Ok(Probed { bucket, seen });
             }
             let Some(behind) = node_of(starts.geometry.nodes, link) else {
                 unreachable!()
@@ -123,7 +126,27 @@ impl<M: Mix> Table<M> {
             walk = next;
             node = behind;
         }
-        None
+        self.walking_left::<K, F>(seat, frame, probe, bucket, walk, node)
+    }
+
+    /// The probe before the key of this node, with which the walk leaves off.
+    #[cold]
+    #[inline(never)]
+    fn walking_left<K: Ride, F: Frame<M, Probe, Probed>>(
+        &self,
+        seat: &mut Seat<(), SeatView<M>>,
+        frame: &F,
+        probe: &Probe,
+        bucket: Locked,
+        walk: LockedWalk,
+        node: u32,
+    ) -> Result<Probed, Probe>
+        requires node { node < walk.geometry.nodes }
+        requires riding { IsRiding M.mix_of self.now K.riding (F.holding frame.now (record probe.now { at = at.Walking bucket (record walk { at = Key node }) })) seat.old }
+        ensures { Stepped M.mix_of self.now K.riding (come_to (λ p. F.holding frame.now p) (λ a. F.behind frame.now a) result) seat.new }
+    {
+        let walk = walk.at_key(node);
+        Err(probe.with(ProbeAt::Walking { bucket, walk }))
     }
 
     /// The operation of a probe in this state, which is at this physical place.

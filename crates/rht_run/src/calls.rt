@@ -9,13 +9,13 @@ ghost use Rattle.rht_core.specs.Replies.{IsFindReply, IsBindReply, IsReleaseRepl
 ghost use Rattle.rht_grace.specs.TidyLaws.{tidy_bound};
 ghost use Rattle.rht_run.specs.declared.pass.Pass.{Pass as PassOf};
 ghost use Rattle.rht_run.specs.Rule.{MayBegin};
-ghost use Rattle.rht_run.specs.Passes.{IsPassOf, IsCalling, IsSamePass, HasCalled, Turned, HasGone};
+ghost use Rattle.rht_run.specs.Passes.{IsPassOf, IsCalling, IsSamePass, HasCalled, HasSetOut, Turned, HasGone};
 ghost use Rattle.rht_run.specs.Caused.{IsCaused, HasLookedUp, HasLeftBatch};
 ghost use Rattle.rht_run.specs.Tidying.{HasTidiedBatch};
 
 use crate::finding::looked_up;
 use crate::pass::Pass;
-use crate::releasing::released;
+use crate::releasing::{leave_release, released};
 use crate::ride::{clear_rooms, keep_node};
 use crate::table::Table;
 use rht_model::{Call, Cursor, Reply};
@@ -51,13 +51,51 @@ impl<M: Mix> Table<M> {
         self.go::<Brand>(pass, None)
     }
 
+    /// Sets out on a call: makes its operations in one go, as long as it waits for nobody. At the lock of a
+    /// bucket it looks so many times at most whether that can be had. Then it leaves off, as it does before
+    /// a way that is seldom taken. A reply ends the call. Without one the pass is in it, and goes on by
+    /// `step`. It takes no memory.
+    #[inline(always)]
+    pub fn set_out(&self, pass: &mut Pass<M>, call: Call, rounds: u64) -> Option<Reply>
+        requires pass { IsPassOf M.mix_of self.now pass.old }
+        requires may { MayBegin self.now.env pass.old.number call pass.old.local }
+        ensures { HasSetOut M.mix_of self.now call pass.old result pass.new }
+    {
+        match call {
+            Call::Release { port, owner } => self.release_in(pass, port, owner, rounds),
+            _ => self.start(pass, call),
+        }
+    }
+
+    /// Sets out on a release.
+    #[inline(always)]
+    fn release_in(&self, pass: &mut Pass<M>, port: Port, owner: u32, rounds: u64) -> Option<Reply>
+        requires pass { IsPassOf M.mix_of self.now pass.old }
+        requires idle { is_idle pass.old.local ≡ true }
+        ensures { HasSetOut M.mix_of self.now (Release port owner) pass.old result pass.new }
+    {
+        clear_rooms(&mut pass.local);
+        let came = self.drive_release::<Brand>(&mut pass.seat, pass.number, port, owner, rounds);
+        match came {
+            Ok((kick, removed)) => {
+                keep_node(&mut pass.local, removed);
+                Some(released(kick))
+            }
+            Err(at) => {
+                leave_release(&mut pass.local, self.env, pass.number, port, owner, at);
+                None
+            }
+        }
+    }
+
     /// A call that may wait for other callers.
+    #[inline(always)]
     fn call<R: Wait>(&self, rt: &R, pass: &mut Pass<M>, call: Call) -> Reply
         requires pass { IsPassOf M.mix_of self.now pass.old }
         requires may { MayBegin self.now.env pass.old.number call pass.old.local }
         ensures { HasCalled M.mix_of self.now call result pass.old pass.new }
     {
-        if let Some(reply) = self.start(pass, call) {
+        if let Some(reply) = self.set_out(pass, call, u64::MAX) {
             return reply;
         }
         for _ in rt.forever() {
@@ -144,16 +182,9 @@ impl<M: Mix> Table<M> {
         ensures reply { IsReleaseReply result }
         ensures cause { IsCaused M.mix_of self.now (Release port owner) result pass.old pass.new }
     {
-        clear_rooms(&mut pass.local);
-        let (kick, removed) = self.drive_release::<R, Brand>(
-            rt,
-            &mut pass.seat,
-            pass.number,
-            port,
-            owner,
-        );
-        keep_node(&mut pass.local, removed);
-        released(kick)
+        // A call may be made of each port, since a port's key word is below 2^48.
+        let _ = word_of(port);
+        self.call(rt, pass, Call::Release { port, owner })
     }
 
     /// Puts a new owner in the place of the first of the port's owners that is this one: `Rebound`, `Absent`

@@ -75,7 +75,7 @@ impl<M: Mix> Table<M> {
             number,
         };
         let place = flat_place(env.geometry, rehash.shape, number);
-        let Some(bucket) = self.take_lock::<K, BucketLocking>(seat, &frame, place) else {
+        let Some(bucket) = self.take_lock::<K, BucketLocking>(seat, &frame, place, u64::MAX) else {
             return None;
         };
         self.empty_bucket::<K>(seat, env, caller, rehash, number, bucket)
@@ -253,7 +253,7 @@ impl<M: Mix> Table<M> {
             entry,
             table,
         };
-        let Some(bucket) = self.take_lock::<K, SecondLocking>(seat, &frame, place) else {
+        let Some(bucket) = self.take_lock::<K, SecondLocking>(seat, &frame, place, u64::MAX) else {
             return None;
         };
         let second = Second { table, bucket };

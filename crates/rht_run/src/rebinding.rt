@@ -74,10 +74,8 @@ impl<M: Mix> Table<M> {
         };
         let at = SeekAt::CurrentTable;
         let table = table_of(self.seeking::<K, RebindSeeking>(seat, &frame, geometry, port, at));
-        let Some(sought) = self.seek::<K, RebindSeeking>(seat, &frame, starts, port, table) else {
-            never(rt);
-            unreachable!()
-        };
+        let rounds = u64::MAX;
+        let sought = self.seek::<K, RebindSeeking>(seat, &frame, starts, port, table, rounds);
         let found = match sought {
             Sought::Found { found } => found,
             Sought::Nowhere => {
@@ -92,6 +90,10 @@ impl<M: Mix> Table<M> {
                     rt, seat, number, port, owner, new, node, table, shape, bucket,
                 );
             }
+            Sought::Left { .. } => {
+                never(rt);
+                unreachable!()
+            }
         };
         let frame = RebindSearching {
             caller: number,
@@ -101,8 +103,7 @@ impl<M: Mix> Table<M> {
             found,
         };
         let first = found.node;
-        let Some(place) = self.search::<K, RebindSearching>(seat, &frame, starts, owner, first)
-        else {
+        let Ok(place) = self.search::<K, RebindSearching>(seat, &frame, starts, owner, first) else {
             never(rt);
             unreachable!()
         };

@@ -1,18 +1,18 @@
 //! The release of a port, in straight code.
 
-ghost use Rattle.std.specs.Prelude.{◌≡◌, false, Some};
+ghost use Rattle.std.specs.Prelude.{◌≡◌, ◌<◌, false, Some};
 ghost use Rattle.rht_model.specs.declared.history.Call.TheVariants.{Release as ReleaseCall};
 ghost use Rattle.rht_model.specs.declared.history.Reply.TheVariants.{Released};
 ghost use Rattle.rht_release.specs.FoundPort.{relink_of};
 ghost use Rattle.rht_release.specs.declared.release.ReleaseAt.TheVariants.{Seeking, LinkBehind, Unlinking, Lowering, Closing};
-ghost use Rattle.rht_release.specs.Release.{plan_at, promoting};
+ghost use Rattle.rht_release.specs.Release.{plan_at, promoting, IsReleaseAtIn};
 ghost use Rattle.rht_run.specs.Layout.{physical_place};
-ghost use Rattle.rht_run.specs.Rides.{IsBefore, IsRiding, HasEndedWith, Stepped, released, kick_in, driven};
-ghost use Rattle.rht_run.specs.Seeks.{release_at, nested_seek};
+ghost use Rattle.rht_run.specs.Rides.{IsBefore, IsRiding, HasEndedWith, Stepped, released, driven};
+ghost use Rattle.rht_run.specs.Seeks.{release_at, release_came, port_seek, nested_seek};
 
 use crate::layout::section;
 use crate::pieces::Whole;
-use crate::ride::{Ride, never};
+use crate::ride::Ride;
 use crate::searches::ReleaseSearching;
 use crate::seats::SeatView;
 use crate::seeking::{Sought, nested_seek};
@@ -20,30 +20,30 @@ use crate::seeks::ReleaseSeeking;
 use crate::starts::Starts;
 use crate::table::Table;
 use atomic_table::Seat;
+use rht_core::{Doing, Local};
 use rht_model::Reply;
 use rht_policy::Mix;
 use rht_release::release::{closing, kicks, unlocking};
-use rht_release::{FoundPort, ListPlace, Release, ReleaseAt, SeekAt};
+use rht_release::{FoundPort, ListPlace, Release, ReleaseAt, Seek, SeekAt};
 use rht_words::{Env, Port, link_of, node_of, table_of};
-use std::sync::Wait;
 
 impl<M: Mix> Table<M> {
-    /// Takes the binding out, from the first operation to the reply. It answers whether `work` has something
-    /// to do, or that there is no such binding, and the node that was taken out: twelve bytes, where a reply
-    /// has 32.
+    /// Takes the binding out, from the first operation on. It answers whether `work` has something to do, or
+    /// that there is no such binding, and the node that was taken out; or where the release was left: at the
+    /// lock of a bucket that it didn't have in so many rounds, or before the entries of a nested table.
     #[inline(never)]
-    pub(crate) fn drive_release<R: Wait, K: Ride>(
+    pub(crate) fn drive_release<K: Ride>(
         &self,
-        rt: &R,
         seat: &mut Seat<(), SeatView<M>>,
         number: u32,
         port: Port,
         owner: u32,
-    ) -> (Option<bool>, Option<u32>)
+        rounds: u64,
+    ) -> Result<(Option<bool>, Option<u32>), ReleaseAt>
         requires before { IsBefore M.mix_of self.now K.riding seat.old }
         requires number { K.riding.number ≡ number }
         requires call { K.riding.call ≡ ReleaseCall port owner }
-        ensures { HasEndedWith M.mix_of self.now K.riding (released result.0) result.1 seat.new }
+        ensures { Stepped M.mix_of self.now K.riding (release_came self.now.env number port owner result) seat.new }
     {
         let env = self.env;
         let release = Release::<M>::new(env, number, port, owner);
@@ -62,23 +62,23 @@ impl<M: Mix> Table<M> {
         let starts = self.starts();
         let at = SeekAt::CurrentTable;
         let table = table_of(self.seeking::<K, ReleaseSeeking>(seat, &frame, geometry, port, at));
-        let Some(sought) = self.seek::<K, ReleaseSeeking>(seat, &frame, starts, port, table) else {
-            never(rt);
-            unreachable!()
-        };
+        let sought = self.seek::<K, ReleaseSeeking>(seat, &frame, starts, port, table, rounds);
         let found = match sought {
             Sought::Found { found } => found,
             Sought::Nowhere => {
-                return self.close_release::<K>(seat, env, number, port, owner, None, None);
+                return Ok(self.close_release::<K>(seat, env, number, port, owner, None, None));
             }
             Sought::Nested {
                 table,
                 shape,
                 bucket,
             } => {
-                return self.release_nested::<R, K>(
-                    rt, seat, number, port, owner, table, shape, bucket,
-                );
+                return Err(self.release_nested::<K>(
+                    seat, number, port, owner, table, shape, bucket,
+                ));
+            }
+            Sought::Left { at } => {
+                return Err(self.release_seeking::<K>(seat, number, port, owner, at));
             }
         };
         let frame = ReleaseSearching {
@@ -87,17 +87,17 @@ impl<M: Mix> Table<M> {
             found,
         };
         let first = found.node;
-        let Some(place) = self.search::<K, ReleaseSearching>(seat, &frame, starts, owner, first)
-        else {
-            never(rt);
-            unreachable!()
+        let searched = self.search::<K, ReleaseSearching>(seat, &frame, starts, owner, first);
+        let place = match searched {
+            Ok(place) => place,
+            Err(search) => return Err(ReleaseAt::Searching { found, search }),
         };
         let Some(ListPlace { node, before }) = place else {
             let at = unlocking(found, None);
             self.releasing::<K>(seat, env, number, port, owner, at);
-            return self.close_release::<K>(seat, env, number, port, owner, None, None);
+            return Ok(self.close_release::<K>(seat, env, number, port, owner, None, None));
         };
-        self.take_out::<K>(seat, env, starts, number, port, owner, found, node, before)
+        Ok(self.take_out::<K>(seat, env, starts, number, port, owner, found, node, before))
     }
 
     /// Takes this node out of the port's list, where the node before it is this one.
@@ -234,12 +234,11 @@ impl<M: Mix> Table<M> {
         self.releasing::<K>(seat, env, number, port, owner, at);
     }
 
-    /// Takes the binding out from a nested table on.
+    /// Where a release is left before the entries of a nested table.
     #[cold]
     #[inline(never)]
-    fn release_nested<R: Wait, K: Ride>(
+    fn release_nested<K: Ride>(
         &self,
-        rt: &R,
         seat: &mut Seat<(), SeatView<M>>,
         number: u32,
         port: Port,
@@ -247,18 +246,30 @@ impl<M: Mix> Table<M> {
         table: u32,
         shape: u64,
         bucket: u32,
-    ) -> (Option<bool>, Option<u32>)
-        requires call { K.riding.call ≡ ReleaseCall port owner }
-        requires riding { IsRiding M.mix_of self.now K.riding (release_at self.now.env number port owner (Seeking (nested_seek self.now.env.geometry table shape bucket))) seat.old }
-        ensures { HasEndedWith M.mix_of self.now K.riding (released result.0) result.1 seat.new }
+    ) -> ReleaseAt
+        requires { IsRiding M.mix_of self.now K.riding (release_at self.now.env number port owner (Seeking (nested_seek self.now.env.geometry table shape bucket))) seat.old }
+        ensures { IsRiding M.mix_of self.now K.riding (release_at self.now.env number port owner result) seat.new }
     {
         let seek = nested_seek(self.env.geometry, table, shape, bucket);
-        let at = ReleaseAt::Seeking { seek };
-        let release = Release::<M>::new(self.env, number, port, owner).with(at);
-        let (reply, removed) = self.run_whole::<R, K, (Reply, Option<u32>), Release<M>, Whole>(
-            rt, seat, &Whole, release,
-        );
-        (kick_in(reply), removed)
+        ReleaseAt::Seeking { seek }
+    }
+
+    /// Where a release is left whose way to the port was left here.
+    #[cold]
+    #[inline(never)]
+    fn release_seeking<K: Ride>(
+        &self,
+        seat: &mut Seat<(), SeatView<M>>,
+        number: u32,
+        port: Port,
+        owner: u32,
+        at: SeekAt,
+    ) -> ReleaseAt
+        requires { IsRiding M.mix_of self.now K.riding (release_at self.now.env number port owner (Seeking (port_seek self.now.env.geometry port at).seek)) seat.old }
+        ensures { IsRiding M.mix_of self.now K.riding (release_at self.now.env number port owner result) seat.new }
+    {
+        let seek = Seek::new(self.env.geometry).with(at);
+        ReleaseAt::Seeking { seek }
     }
 
     /// The operation of the release in this state.
@@ -300,6 +311,25 @@ impl<M: Mix> Table<M> {
     }
 }
 
+/// Leaves a caller in the middle of a release, which stands here. It takes no memory.
+#[cold]
+#[inline(never)]
+pub(crate) fn leave_release<M: Mix>(
+    local: &mut Local<M>,
+    env: Env,
+    caller: u32,
+    port: Port,
+    owner: u32,
+    at: ReleaseAt,
+)
+    requires caller { caller < 16 }
+    requires at { IsReleaseAtIn env at }
+    ensures { local.new ≡ record local.old { doing = release_at env caller port owner at } }
+{
+    let release = Release::new(env, caller, port, owner).with(at);
+    local.doing = Doing::Releasing(release);
+}
+
 /// The reply of a release: the binding was taken out, with this kick, or there is none.
 #[inline(always)]
 pub(crate) fn released(kick: Option<bool>) -> Reply
@@ -308,15 +338,5 @@ pub(crate) fn released(kick: Option<bool>) -> Reply
     match kick {
         Some(kick) => Reply::Released { kick },
         None => Reply::Absent,
-    }
-}
-
-/// The kick in the reply of a release.
-fn kick_in(reply: Reply) -> Option<bool>
-    ensures { result ≡ kick_in reply }
-{
-    match reply {
-        Reply::Released { kick } => Some(kick),
-        _ => None,
     }
 }

@@ -1,11 +1,11 @@
 //! The search of a port's list for an owner, in whatever machine makes it.
 
-ghost use Rattle.std.specs.Prelude.{◌≡◌, ◌<◌, IfSome};
+ghost use Rattle.std.specs.Prelude.{◌≡◌, ◌<◌};
 ghost use Rattle.rht_release.specs.ListSearch.{search_plan, search_after, search_new, IsSearchIn};
 ghost use Rattle.rht_release.specs.declared.release.ReleaseAt.TheVariants as releases;
 ghost use Rattle.rht_release.specs.declared.rebind.RebindAt.TheVariants as rebinds;
 ghost use Rattle.rht_run.specs.Layout.{physical_place};
-ghost use Rattle.rht_run.specs.Rides.{IsRiding, Stepped, piece_next};
+ghost use Rattle.rht_run.specs.Rides.{IsRiding, Stepped, piece_next, come_to};
 ghost use Rattle.rht_run.specs.Searches.{owner_search, owner_search_after, owner_sought, release_searched, release_searching, rebind_searched, rebind_searching};
 ghost use Rattle.rht_run.specs.Seeks.{release_at, rebind_at};
 
@@ -140,8 +140,8 @@ impl<M: Mix> Frame<M, OwnerSearch, OwnerSought> for RebindSearching {
 }
 
 impl<M: Mix> Table<M> {
-    /// Looks for the first node with the owner, from this node of the port's list on. `None` comes behind
-    /// 2^64 - 1 nodes, which no run has.
+    /// Looks for the first node with the owner, from this node of the port's list on. Behind 2^64 - 1 nodes,
+    /// which no run has, it leaves off, and gives the search as it stands there.
     #[inline(always)]
     pub(crate) fn search<K: Ride, F: Frame<M, OwnerSearch, OwnerSought>>(
         &self,
@@ -150,10 +150,10 @@ impl<M: Mix> Table<M> {
         starts: Starts,
         owner: u32,
         first: u32,
-    ) -> Option<Option<ListPlace>>
+    ) -> Result<Option<ListPlace>, ListSearch>
         requires starts { starts.geometry ≡ self.now.env.geometry }
         requires riding { IsRiding M.mix_of self.now K.riding (F.holding frame.now (owner_search self.now.env owner (search_new first))) seat.old }
-        ensures { IfSome result (λ place. Stepped M.mix_of self.now K.riding (F.behind frame.now (owner_sought self.now.env owner place)) seat.new) }
+        ensures { Stepped M.mix_of self.now K.riding (come_to (λ search. F.holding frame.now (owner_search self.now.env owner search)) (λ place. F.behind frame.now (owner_sought self.now.env owner place)) result) seat.new }
     {
         let mut node = first;
         let mut before = None;
@@ -162,18 +162,18 @@ impl<M: Mix> Table<M> {
             let place = starts.owner(node);
             let word = self.searching_at::<K, F>(seat, frame, owner, at, place);
             if owner_of(word) == owner {
-                return Some(Some(ListPlace { node, before }));
+                return Ok(Some(ListPlace { node, before }));
             }
             let at = ListSearch::ListLink { node };
             let place = starts.list_link(node);
             let link = self.searching_at::<K, F>(seat, frame, owner, at, place);
             let Some(next) = node_of(self.env.geometry.nodes, link) else {
-                return Some(None);
+                return Ok(None);
             };
             before = Some(node);
             node = next;
         }
-        None
+        Err(ListSearch::Owner { node, before })
     }
 
     /// The operation of the search in this state, whose physical place is known.

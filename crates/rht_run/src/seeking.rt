@@ -1,6 +1,6 @@
 //! The way to a port that is taken out or replaced, in whatever machine goes it.
 
-ghost use Rattle.std.specs.Prelude.{◌≡◌, ◌<◌, IfSome};
+ghost use Rattle.std.specs.Prelude.{◌≡◌, ◌<◌};
 ghost use Rattle.rht_release.specs.Seek.{seek_after_at, locating};
 ghost use Rattle.rht_run.specs.Rides.{IsRiding, Stepped, piece_next};
 ghost use Rattle.rht_run.specs.Seeks.{port_seek, seek_told, nested_seek, sought_then};
@@ -14,7 +14,7 @@ use crate::starts::Starts;
 use crate::table::Table;
 use atomic_table::Seat;
 use rht_policy::Mix;
-use rht_release::seek::leaving;
+use rht_release::seek::{leaving, locating};
 use rht_release::{FoundPort, Seek, SeekAt};
 use rht_words::{Geometry, Port, slot_of, word_of};
 
@@ -27,11 +27,14 @@ pub enum Sought {
     Nowhere,
     /// To the nested table of this slot and this shape, in which it goes to the bucket of this number.
     Nested { table: u32, shape: u64, bucket: u32 },
+    /// It was left here: a bucket's lock wasn't had in the rounds that were given.
+    Left { at: SeekAt },
 }
 
 impl<M: Mix> Table<M> {
     /// Goes from the table of this slot through the futures to the bucket in which the port is found, or
-    /// to the first table that is nested. `None` comes behind 2^64 - 1 rounds, which no run uses up.
+    /// to the first table that is nested. It leaves off where it didn't have the lock of a bucket in so
+    /// many rounds, and behind 2^64 - 1 tables, which no run goes through.
     #[inline(always)]
     pub(crate) fn seek<K: Ride, F: Frame<M, PortSeek, (Port, Option<FoundPort>)> + Copy>(
         &self,
@@ -40,9 +43,10 @@ impl<M: Mix> Table<M> {
         starts: Starts,
         port: Port,
         table: u32,
-    ) -> Option<Sought>
+        rounds: u64,
+    ) -> Sought
         requires { IsRiding M.mix_of self.now K.riding (F.holding frame.now (port_seek starts.geometry port (locating starts.geometry table))) seat.old }
-        ensures { IfSome result (λ sought. Stepped M.mix_of self.now K.riding (sought_then (λ p. F.holding frame.now p) (λ a. F.behind frame.now a) starts.geometry port sought) seat.new) }
+        ensures { Stepped M.mix_of self.now K.riding (sought_then (λ p. F.holding frame.now p) (λ a. F.behind frame.now a) starts.geometry port result) seat.new }
     {
         let geometry = starts.geometry;
         let mut table = table;
@@ -55,11 +59,11 @@ impl<M: Mix> Table<M> {
             let (shape, place) = match way {
                 Way::Flat { shape, place } => (shape, place),
                 Way::Nested { shape, bucket } => {
-                    return Some(Sought::Nested {
+                    return Sought::Nested {
                         table,
                         shape,
                         bucket,
-                    });
+                    };
                 }
             };
             let probing = SeekProbing {
@@ -70,9 +74,18 @@ impl<M: Mix> Table<M> {
                 shape,
             };
             let key = word_of(port);
-            let Some(end) = self.probe::<K, SeekProbing<F>>(seat, &probing, starts, place, key)
-            else {
-                return None;
+            let end = match self.probe::<K, SeekProbing<F>>(
+                seat, &probing, starts, place, key, rounds,
+            ) {
+                Ok(end) => end,
+                Err(probe) => {
+                    let at = SeekAt::Probing {
+                        table,
+                        shape,
+                        probe,
+                    };
+                    return Sought::Left { at };
+                }
             };
             let bucket = end.bucket;
             if let Some(node) = end.seen.found {
@@ -84,18 +97,19 @@ impl<M: Mix> Table<M> {
                     node,
                     before,
                 };
-                return Some(Sought::Found { found });
+                return Sought::Found { found };
             }
             let at = SeekAt::Future { table, bucket };
             let future = slot_of(self.seeking::<K, F>(seat, frame, geometry, port, at));
             let at = leaving(table, bucket, future);
             self.seeking::<K, F>(seat, frame, geometry, port, at);
             let Some(next) = future else {
-                return Some(Sought::Nowhere);
+                return Sought::Nowhere;
             };
             table = next;
         }
-        None
+        let at = locating(geometry, table);
+        Sought::Left { at }
     }
 
     /// The operation of the way in this state.

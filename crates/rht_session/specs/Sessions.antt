@@ -49,6 +49,14 @@ pub record HasBegun {M : Type 0} (mix : ℕ → ℕ → ℕ → ℕ) (t : Table 
   pub come_to : HasComeTo mix t call 1 before reply now
   pub one : HasGone mix t (Some call) before reply now
 
+-- The pass has set out on this call: by operations in one go, which have ended it, or left it in the middle. What follows is as behind
+-- any operation of the call.
+pub record HasSetOut {M : Type 0} (mix : ℕ → ℕ → ℕ → ℕ) (t : Table M) (call : Call) (before : Pass M) (reply : Option Reply) (now : Pass M)
+    : Type 0 where
+  pub pass : IsPassOf mix t now
+  pub steps : ℕ
+  pub come_to : HasComeTo mix t call steps before reply now
+
 -- The pass has gone on with its call, by so many operations at most and one at least; these found words, from which alone it is what it
 -- is now. Where the call hasn't ended it has gone on by so many. The call may have any number of operations behind it, and have begun on
 -- any state of the pass.
@@ -120,6 +128,10 @@ LooksUp port reply = Does (λ M mix t before now. HasLookedUp mix t port reply b
 -- the session has begun this call by its first operation, and may have ended it with that
 abbrev pub Begins : Call → Option Reply → Session → Session → Type 0
 Begins call reply = Does (λ M mix t before now. HasBegun mix t call before reply now)
+
+-- the session has set out on this call, and may have ended it with that
+abbrev pub SetsOut : Call → Option Reply → Session → Session → Type 0
+SetsOut call reply = Does (λ M mix t before now. HasSetOut mix t call before reply now)
 
 -- the session has gone on with its call by so many operations, unless it ended before
 abbrev pub GoesOn : ℕ → Option Reply → Session → Session → Type 0

@@ -30,7 +30,7 @@ impl Handle {
     ghost use Rattle.rht_session.specs.Plain.{c_pair};
     ghost use Rattle.rht_model.specs.declared.history.Call.TheVariants.{Find, Walk, Tidy, Count};
     ghost use Rattle.rht_session.specs.Held.{is_some};
-    ghost use Rattle.rht_session.specs.Sessions.{is_free, owners_of, pairs_of, Ends, LooksUp, Begins};
+    ghost use Rattle.rht_session.specs.Sessions.{is_free, owners_of, pairs_of, Ends, LooksUp, Begins, SetsOut};
     ghost use Rattle.rht_session.specs.Handles.{sessions_of, IsBlank, Holds, HadFree, HadBusy, IsFitHandle, IsNotFree, IsNotBusy, IsAnswered, IsGoneOn, Shows};
 
     /// A handle without a session.
@@ -160,6 +160,16 @@ impl Handle {
     {
         self.need_free()?;
         Ok(self.address.session().begin(call))
+    }
+
+    /// Sets out on a call, as `Session::set_out`. Refused are `NotOpen` and `InCall`.
+    pub fn set_out(&mut self, call: Call, rounds: u32) -> Result<Option<Reply>, Refused>
+        requires { IsFitHandle self.old }
+        ensures fit { IsFitHandle self.new }
+        ensures answer { IsAnswered (SetsOut call) self.old result self.new }
+    {
+        self.need_free()?;
+        Ok(self.address.session().set_out(call, rounds))
     }
 
     /// Goes on with the call in progress, as `Session::go_on`. Refused are `NoSteps` where `most` is 0,

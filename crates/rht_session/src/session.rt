@@ -6,7 +6,7 @@ ghost use Rattle.std.specs.Prelude.{◌≡◌, ◌<◌, true, false, IfOk, map};
 ghost use Rattle.rht_words.specs.Settled.{IsSettled};
 ghost use Rattle.rht_model.specs.declared.history.Call.TheVariants.{Find, Walk, Tidy, Count};
 ghost use Rattle.rht_session.specs.declared.session.Session.TheVariants as sessions;
-ghost use Rattle.rht_session.specs.Sessions.{IsFit, is_free, owners_of, pairs_of, Ends, LooksUp, Begins, GoesOn, AreOpened};
+ghost use Rattle.rht_session.specs.Sessions.{IsFit, is_free, owners_of, pairs_of, Ends, LooksUp, Begins, SetsOut, GoesOn, AreOpened};
 
 use crate::shared::Shared;
 use rht_model::{Call, Cursor, Reply};
@@ -119,6 +119,21 @@ impl Session {
         match self {
             Session::Mix(shared) => shared.begin(call),
             Session::Low(shared) => shared.begin(call),
+        }
+    }
+
+    /// Sets out on a call, in one go: it makes its operations as long as it need not wait for another caller,
+    /// and looks so many times at most whether a bucket's lock can be had. A reply ends the call; without one
+    /// the session is in it, and `go_on` goes on.
+    pub fn set_out(&mut self, call: Call, rounds: u32) -> Option<Reply>
+        requires fit { IsFit self.old }
+        requires free { is_free self.old ≡ true }
+        ensures fit { IsFit self.new }
+        ensures set_out { SetsOut call result self.old self.new }
+    {
+        match self {
+            Session::Mix(shared) => shared.set_out(call, rounds),
+            Session::Low(shared) => shared.set_out(call, rounds),
         }
     }
 

@@ -1,7 +1,8 @@
 //! One caller of a table that others share. Its calls are those of `rht_run` on its table and its pass.
 //!
 //! A call that waits for nobody is made as a whole. Any call can be made in pieces instead: `begin` makes its
-//! first operation, and `go_on` so many further ones. None of these waits, and none takes memory.
+//! first operation, and `go_on` so many further ones; or `set_out` makes operations in one go, as long as it need not
+//! wait. None of these waits, and none takes memory.
 
 ghost use Rattle.std.specs.Prelude.{◌≡◌, ◌<◌, true, false, IfOk, IfSome, IfNone, length, vec_len};
 ghost use Rattle.rht_words.specs.Settled.{IsSettled};
@@ -10,7 +11,7 @@ ghost use Rattle.rht_core.specs.Locals.{is_idle};
 ghost use Rattle.rht_core.specs.Runs.{IsAdmittedCall};
 ghost use Rattle.rht_run.specs.Passes.{IsPassOf};
 ghost use Rattle.rht_run.specs.Caused.{HasLookedUp};
-ghost use Rattle.rht_session.specs.Sessions.{table_of, HasEnded, HasBegun, HasGoneOn, AreAllNew};
+ghost use Rattle.rht_session.specs.Sessions.{table_of, HasEnded, HasBegun, HasSetOut, HasGoneOn, AreAllNew};
 
 use rht_model::{Call, Cursor, Reply};
 use rht_policy::Mix;
@@ -85,6 +86,18 @@ impl<M: Mix> Shared<M> {
         let same = call;
         in_range(same);
         self.table.start(&mut self.pass, call)
+    }
+
+    /// Sets out on any call, as `Table::set_out`: a reply ends it, and without one it is in progress.
+    pub fn set_out(&mut self, call: Call, rounds: u32) -> Option<Reply>
+        requires fit { IsPassOf M.mix_of (table_of self.old) self.old.pass }
+        requires free { is_idle self.old.pass.local ≡ true }
+        ensures table { self.new.table ≡ self.old.table }
+        ensures set_out { HasSetOut M.mix_of (table_of self.old) call self.old.pass result self.new.pass }
+    {
+        let same = call;
+        in_range(same);
+        self.table.set_out(&mut self.pass, call, u64::from(rounds))
     }
 
     /// Goes on with the call in progress, by so many operations unless it ends before. Without a reply it is

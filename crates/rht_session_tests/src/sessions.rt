@@ -153,6 +153,39 @@ fn lists_are_written_as_far_as_there_is_room(rt: HostRuntime) -> Result<(), Fail
 }
 
 #[test]
+fn a_call_in_one_go_leaves_off_at_a_lock(rt: HostRuntime) -> Result<(), Fail> {
+    let alloc = rt.alloc();
+    let port = Port::plain(1);
+    let release = Call::Release { port, owner: 7 };
+    let released = Reply::Released { kick: false };
+    let bound = Reply::Bound { kick: false };
+    let (mut first, mut second) = opened(alloc, SMALL)?;
+    assert_same(&rt, made(&mut first, bind(port, 7))?, bound);
+    // with no round it is left before the lock, in its section, and any number of operations goes on with it
+    assert_same(&rt, first.set_out(release, 0), Ok(None));
+    assert_same(&rt, first.find(port), Err(Refused::InCall));
+    assert_same(&rt, first.set_out(release, 1), Err(Refused::InCall));
+    assert_same(&rt, second.find(port), Ok(Reply::Found { owner: 7 }));
+    assert_same(&rt, first.go_on(1), Ok(None));
+    assert_same(&rt, first.go_on(1_000), Ok(Some(released)));
+    // eleven operations lead a bind to the lock of the port's bucket, which it has then
+    assert_same(&rt, made(&mut first, bind(port, 7))?, bound);
+    assert_same(&rt, second.begin(bind(port, 8)), Ok(None));
+    assert_same(&rt, second.go_on(10), Ok(None));
+    assert_same(&rt, first.set_out(release, 3), Ok(None));
+    assert_same(&rt, first.go_on(5), Ok(None));
+    assert_same(&rt, second.go_on(1_000), Ok(Some(bound)));
+    assert_same(&rt, first.go_on(1_000), Ok(Some(released)));
+    // and where nobody has it one round is enough
+    let absent = first.set_out(release, 1);
+    assert_same(&rt, absent, Ok(Some(Reply::Absent)));
+    let other = Call::Release { port, owner: 8 };
+    assert_same(&rt, first.set_out(other, 1), Ok(Some(released)));
+    assert_same(&rt, second.find(port), Ok(Reply::Missing));
+    Ok(())
+}
+
+#[test]
 fn calls_are_refused_by_what_a_handle_has(rt: HostRuntime) -> Result<(), Fail> {
     let alloc = rt.alloc();
     let port = Port::plain(1);
