@@ -12,6 +12,8 @@ pub mod NodesSeen
 pub mod NodesInTurn
 -- which operations see two nodes taken in their turn, worked out
 pub mod WorkedTurns
+-- the words of the node map are looked at one behind the other, each once
+pub mod WordsLooked
 -- the bits of a run's pages
 pub mod RunBits
 -- whatever words they are told, the taking and giving back of a run stay in it

@@ -1,17 +1,16 @@
 -- A node that is answered was free until the operation that took it, and giving it back sets its bit again.
-use Rattle.std.proofs.Common.{◌≡◌, ℕ, ◌+◌, ◌*◌, ◌/◌, ◌%◌, ◌<◌, Some, None, refl, subst, eqb, ltb, arith}
+use Rattle.std.proofs.Common.{◌≡◌, ℕ, ◌+◌, ◌*◌, ◌/◌, ◌%◌, ◌<◌, Some, None, refl, subst, eqb, arith}
 use Rattle.std.proofs.lemmas.Bool.{cond_both, eqb-true}
 use Rattle.std.specs.Int.{bit_at}
 use Rattle.rht_words.specs.declared.machine.Next.{Next}
 use Rattle.rht_words.specs.declared.machine.Next.TheVariants.{Go, Done}
 use Rattle.rht_words.specs.declared.geometry.Geometry.{Geometry}
 use Rattle.rht_words.specs.Maps.{IsBitIn, bits_above, lowest_free}
-use Rattle.rht_words.specs.Places.{map_words}
 use Rattle.rht_words.proofs.BitChanges.{bit_at-cleared, bit_at-cleared_other, bit_at-set, bit_at-set_other}
 use Rattle.std.specs.Prelude.{bit_and, Option}
 use Rattle.rht_arena.specs.declared.take_node.TakeNodeAt.{TakeNodeAt}
 use Rattle.rht_arena.specs.declared.take_node.TakeNodeAt.TheVariants.{MapWord, Claim}
-use Rattle.rht_arena.specs.TakeNode.{TakeNodeModel, IsTakeAtIn, plan_at, after_at, claim_in, claim_among}
+use Rattle.rht_arena.specs.TakeNode.{TakeNodeModel, IsTakeAtIn, plan_at, after_at, word_behind, claim_in, claim_among}
 use Rattle.rht_arena.specs.Laws.{ChangesBit, claim_of, IsTaking, TakenWasFree, GivingSetsOneBit, map_bit}
 
 -- the And with all ones but the node's bit clears it
@@ -29,9 +28,9 @@ claim_in-no_node : (m : TakeNodeModel) (index node : ℕ) (lowest : Option ℕ)
     → (claim_in m index lowest).1 ≡ Done (Some node) → ⊥
 claim_in-no_node m index node (Some bit) done = cc
 claim_in-no_node m index node None done =
-    cond_both {A = TakeNodeModel × Next (Option ℕ)} (ltb (index + 1) (map_words m.geometry.nodes))
-    (record m { at = MapWord (index + 1) }, Go) (m, Done None)
-    (λ next. next.1 ≡ Done (Some node) → ⊥) (λ more is. cc) (λ last is. cc) done
+    cond_both {A = TakeNodeModel × Next (Option ℕ)} (eqb (word_behind m.geometry index) m.start)
+    (m, Done None) (record m { at = MapWord (word_behind m.geometry index) }, Go)
+    (λ next. next.1 ≡ Done (Some node) → ⊥) (λ last is. cc) (λ more is. cc) done
 
 -- the operation of a machine that stands at this node takes it, where it finds the bit set
 pub claims : (g : Geometry) (index bit old : ℕ) → IsBitIn g.nodes index bit → bit_at old bit ≡ 1

@@ -20,7 +20,7 @@ module _ (g : Geometry) (two : g.nodes ≡ 2) where
 
   -- whoever finds 0 finds both nodes taken, and then all are seen
   sees_both : (step : Performed) → IsLook step.op → op_place step.op ≡ place_of g (NodeMap 0) → step.old ≡ 0
-      → AreSeenInTurn g 0 (step ∷ [])
+      → AreSeenInTurn g 0 g.nodes (step ∷ [])
   sees_both step looks on found = record {
     end = 2;
     rises = omega arith;
@@ -34,11 +34,11 @@ module _ (g : Geometry) (two : g.nodes ≡ 2) where
   }
 
   -- both nodes are found taken at once
-  pub at_once : AreSeenInTurn g 0 (loaded 0 ∷ [])
+  pub at_once : AreSeenInTurn g 0 g.nodes (loaded 0 ∷ [])
   at_once = sees_both (loaded 0) tt refl refl
 
   -- node 0 is found free, and both are found taken when it is claimed
-  pub one_later : AreSeenInTurn g 0 (loaded 1 ∷ claimed 0 0 ∷ [])
+  pub one_later : AreSeenInTurn g 0 g.nodes (loaded 1 ∷ claimed 0 0 ∷ [])
   one_later = record {
     end = 0;
     rises = omega arith;
@@ -60,7 +60,7 @@ module _ (g : Geometry) (two : g.nodes ≡ 2) where
   ]
 
   -- but not in turn
-  pub not_in_turn : AreSeenInTurn g 0 crossed → ⊥
+  pub not_in_turn : AreSeenInTurn g 0 g.nodes crossed → ⊥
   not_in_turn turn =
       let then = turn.behind in
       let last = then.behind in

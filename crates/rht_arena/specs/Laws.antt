@@ -1,16 +1,17 @@
 -- What the machines that take and give back nodes rely on.
-use Rattle.std.specs.Prelude.{◌≡◌, ◌≢◌, ◌↔◌, ℕ, ◌/◌, ◌%◌, ◌<◌, ◌≤◌, ◌^◌, Option, None, Some, List, [], ◌∷◌, ◌++◌}
+use Rattle.std.specs.Prelude.{◌≡◌, ◌≢◌, ◌↔◌, ℕ, ◌+◌, ◌*◌, ◌/◌, ◌%◌, ◌<◌, ◌≤◌, ◌^◌, nat_lt, Option, None, Some, List, [], ◌∷◌, ◌++◌, if◌then◌else◌}
 use Rattle.std.specs.List.{All, Any}
 use Rattle.std.specs.Int.{bit_at, bit_not, w64}
 use Rattle.rht_words.specs.declared.op.Op.{Op}
 use Rattle.rht_words.specs.declared.op.Op.TheVariants.{Load, Store, Exchange, Add, Sub, And, Or}
-use Rattle.rht_words.specs.declared.machine.Next.TheVariants.{Done}
+use Rattle.rht_words.specs.declared.machine.Next.TheVariants.{Go, Done}
 use Rattle.rht_words.specs.declared.geometry.Geometry.{Geometry}
 use Rattle.rht_words.specs.Maps.{bit_of}
-use Rattle.rht_words.specs.Places.{NodeMap, place_of}
+use Rattle.rht_words.specs.Places.{NodeMap, map_words, place_of}
 use Rattle.rht_words.specs.Operations.{op_place, word_after}
 use Rattle.rht_words.specs.Machines.{Performed, Ran, ran}
-use Rattle.rht_arena.specs.TakeNode.{TakeNodeModel, take_node_new, take_node_plan, take_node_after, IsTakeAtIn}
+use Rattle.rht_arena.specs.TakeNode.{TakeNodeModel, take_node_from, take_node_plan, take_node_after, next_word, IsTakeAtIn}
+use Rattle.rht_arena.specs.declared.take_node.TakeNodeAt.TheVariants.{MapWord}
 use Rattle.rht_arena.specs.GiveNode.{GiveNodeModel, give_node_plan}
 
 -- the word of the node map in which the node has its bit, and which bit of the word that is
@@ -45,9 +46,9 @@ TakenWasFree =
     → IsTakeAtIn m.geometry m.at → (take_node_after m old).1 ≡ Done (Some node)
     → IsTaking m.geometry node old (take_node_plan m)
 
--- the taking of a node, whose operations find these words
-abbrev pub taking_ran : Geometry → List ℕ → Ran (Option ℕ)
-taking_ran g olds = ran take_node_plan take_node_after (take_node_new g) olds
+-- the taking of a node, which begins with this word of the map and whose operations find these words
+abbrev pub taking_ran : Geometry → ℕ → List ℕ → Ran (Option ℕ)
+taking_ran g start olds = ran take_node_plan take_node_after (take_node_from g start) olds
 
 -- ---- what was done, by the answer
 
@@ -71,10 +72,11 @@ IsAnsweredBy g steps (Some node) = OneWasTaken g steps node
 -- whatever words its operations find, the answer says what they did
 abbrev pub AnswersSayWhatWasDone : Type 0
 AnswersSayWhatWasDone =
-    (g : Geometry) (olds : List ℕ) (answer : Option ℕ)
+    (g : Geometry) (start : ℕ) (olds : List ℕ) (answer : Option ℕ)
+    → start < map_words g.nodes
     → All (λ old. old < 2 ^ 64) olds
-    → (taking_ran g olds).next ≡ Done answer
-    → IsAnsweredBy g (taking_ran g olds).steps answer
+    → (taking_ran g start olds).next ≡ Done answer
+    → IsAnsweredBy g (taking_ran g start olds).steps answer
 
 -- ---- where there is none
 
@@ -97,8 +99,9 @@ pub record SeesTaken (g : Geometry) (node : ℕ) (step : Performed) : Type 0 whe
 -- none is answered only where each node was seen taken, by some operation
 abbrev pub NoneOnlyWhereTaken : Type 0
 NoneOnlyWhereTaken =
-    (g : Geometry) (olds : List ℕ) → (taking_ran g olds).next ≡ Done None
-    → (node : ℕ) → node < g.nodes → Any (SeesTaken g node) (taking_ran g olds).steps
+    (g : Geometry) (start : ℕ) (olds : List ℕ) → start < map_words g.nodes
+    → (taking_ran g start olds).next ≡ Done None
+    → (node : ℕ) → node < g.nodes → Any (SeesTaken g node) (taking_ran g start olds).steps
 
 -- the operation sees all nodes taken from this one on, up to that one
 abbrev pub SeesAllTaken : Geometry → ℕ → ℕ → Performed → Type 0
@@ -111,16 +114,33 @@ pub record SeesNext (g : Geometry) (next : ℕ) (step : Performed) (Behind : ℕ
   pub sees : SeesAllTaken g next end step
   pub behind : Behind end
 
--- from this node on each is seen taken in its turn: each operation sees the next ones taken, or none, and together all
-abbrev pub AreSeenInTurn : Geometry → ℕ → List Performed → Type 0
-AreSeenInTurn g next [] = g.nodes ≤ next
-AreSeenInTurn g next (step ∷ steps) = SeesNext g next step (λ end. AreSeenInTurn g end steps)
+-- from this node on, up to that one, each is seen taken in its turn: each operation sees the next ones taken, or none, and together all
+abbrev pub AreSeenInTurn : Geometry → ℕ → ℕ → List Performed → Type 0
+AreSeenInTurn g next until [] = until ≤ next
+AreSeenInTurn g next until (step ∷ steps) = SeesNext g next step (λ end. AreSeenInTurn g end until steps)
 
--- none is answered exactly where each node was seen taken in its turn
+-- in two stretches, of which no operation is in both: from this node on to the last one, and from the first one up to that one
+pub record AreSeenRound (g : Geometry) (next until : ℕ) (steps : List Performed) : Type 0 where
+  pub front : List Performed
+  pub rear : List Performed
+  pub are : steps ≡ front ++ rear
+  pub to_last : AreSeenInTurn g next g.nodes front
+  pub from_first : AreSeenInTurn g 0 until rear
+
+-- none is answered exactly where each node was seen taken in its turn, from the first of the word with which it began on
 abbrev pub NoneWhereTakenInTurn : Type 0
 NoneWhereTakenInTurn =
-    (g : Geometry) (olds : List ℕ)
-    → ((taking_ran g olds).next ≡ Done None) ↔ AreSeenInTurn g 0 (taking_ran g olds).steps
+    (g : Geometry) (start : ℕ) (olds : List ℕ) → start < map_words g.nodes
+    → ((taking_ran g start olds).next ≡ Done None)
+    ↔ AreSeenRound g (64 * start) (64 * start) (taking_ran g start olds).steps
+
+-- who began with the first word comes to one word behind the other, and ends behind the last one
+abbrev pub WordsInOrder : Type 0
+WordsInOrder =
+    (m : TakeNodeModel) (index : ℕ) → m.start ≡ 0
+    → next_word m index
+    ≡ (if nat_lt (index + 1) (map_words m.geometry.nodes) then (record m { at = MapWord (index + 1) }, Go)
+    else (m, Done None))
 
 -- giving a node back sets its bit and no other
 abbrev pub GivingSetsOneBit : Type 0

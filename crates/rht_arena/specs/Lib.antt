@@ -12,5 +12,7 @@ pub mod TakeRun
 pub mod GiveRun
 -- what the other machines rely on: nodes
 pub mod Laws
+-- in which order the words of the node map are looked at
+pub mod LookingOnce
 -- and runs of pages
 pub mod RunLaws

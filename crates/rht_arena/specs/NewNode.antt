@@ -7,7 +7,7 @@ use Rattle.rht_words.specs.declared.machine.Next.TheVariants.{Go, Done}
 use Rattle.rht_words.specs.declared.geometry.Geometry.{Geometry}
 use Rattle.rht_words.specs.Places.{Node, KeyWord, OwnerWord, ListLink, place_of}
 use Rattle.rht_words.specs.Planned.{IsWord}
-use Rattle.rht_arena.specs.TakeNode.{TakeNodeModel, take_node_new, take_node_plan, take_node_after, IsTakeIn}
+use Rattle.rht_arena.specs.TakeNode.{TakeNodeModel, take_node_from, take_node_plan, take_node_after, IsTakeIn}
 use Rattle.rht_arena.specs.declared.new_node.NewNodeAt.{NewNodeAt}
 use Rattle.rht_arena.specs.declared.new_node.NewNodeAt.TheVariants as at
 
@@ -18,9 +18,13 @@ pub record NewNodeModel : Type 0 where
   pub owner : ℕ
   pub at : NewNodeAt
 
--- it begins by taking a node
+-- it begins by taking a node, for which it looks from this word of the map on
+abbrev pub new_node_from : Geometry → ℕ → ℕ → ℕ → NewNodeModel
+new_node_from g key owner start = record { geometry = g; key = key; owner = owner; at = at.Taking (take_node_from g start) }
+
+-- or from the first one on
 abbrev pub new_node_new : Geometry → ℕ → ℕ → NewNodeModel
-new_node_new g key owner = record { geometry = g; key = key; owner = owner; at = at.Taking (take_node_new g) }
+new_node_new g key owner = new_node_from g key owner 0
 
 -- the state's one operation
 abbrev pub new_node_plan_at : Geometry → ℕ → ℕ → NewNodeAt → Op

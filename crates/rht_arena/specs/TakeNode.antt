@@ -14,11 +14,16 @@ use Rattle.rht_arena.specs.declared.take_node.TakeNodeAt.TheVariants.{MapWord, C
 -- what contracts see of the machine
 pub record TakeNodeModel : Type 0 where
   pub geometry : Geometry
+  pub start : ℕ
   pub at : TakeNodeAt
 
--- it begins with the map's first word
+-- it begins with this word of the map
+abbrev pub take_node_from : Geometry → ℕ → TakeNodeModel
+take_node_from g start = record { geometry = g; start = start; at = MapWord start }
+
+-- or with the first one
 abbrev pub take_node_new : Geometry → TakeNodeModel
-take_node_new g = record { geometry = g; at = MapWord 0 }
+take_node_new g = take_node_from g 0
 
 -- the state's one operation
 abbrev pub plan_at : Geometry → TakeNodeAt → Op
@@ -28,11 +33,15 @@ plan_at g (Claim index bit) = And (place_of g (NodeMap index)) (bit_not w64 (bit
 abbrev pub take_node_plan : TakeNodeModel → Op
 take_node_plan m = plan_at m.geometry m.at
 
--- behind this word comes the next one; where there is none, no node was free
+-- behind this word of the map comes that one, and behind the last one the first
+abbrev pub word_behind : Geometry → ℕ → ℕ
+word_behind g index = if nat_lt (index + 1) (map_words g.nodes) then index + 1 else 0
+
+-- behind this word comes the next one; where that is the one with which the machine began, no node was free
 abbrev pub next_word : TakeNodeModel → ℕ → TakeNodeModel × Next (Option ℕ)
 next_word m index =
-    if nat_lt (index + 1) (map_words m.geometry.nodes) then (record m { at = MapWord (index + 1) }, Go)
-    else (m, Done None)
+    if word_behind m.geometry index == m.start then (m, Done None)
+    else (record m { at = MapWord (word_behind m.geometry index) }, Go)
 
 -- the lowest node of the map's word that is free there is claimed; where there is none, the next word is looked at
 abbrev pub claim_in : TakeNodeModel → ℕ → Option ℕ → TakeNodeModel × Next (Option ℕ)

@@ -1,7 +1,8 @@
 //! What the machines that take and give back nodes and runs of pages rely on. Each function is empty,
 //! and its clause is the law.
 
-ghost use Rattle.rht_arena.specs.Laws.{TakenWasFree, AnswersSayWhatWasDone, NoneOnlyWhereTaken, NoneWhereTakenInTurn, GivingSetsOneBit};
+ghost use Rattle.rht_arena.specs.Laws.{TakenWasFree, AnswersSayWhatWasDone, NoneOnlyWhereTaken, NoneWhereTakenInTurn, WordsInOrder, GivingSetsOneBit};
+ghost use Rattle.rht_arena.specs.LookingOnce.{LooksOnce};
 ghost use Rattle.rht_arena.specs.RunLaws.{TakenRunWasFree, NoneOnlyWhereRunsTaken, NoneWhereRunsTakenInTurn, HoldsWhatItTook, GivingRunSetsItsBits};
 
 /// A node that is answered was free until the operation after which it is answered, which took it.
@@ -23,11 +24,24 @@ pub fn none_only_where_taken()
 {}
 
 /// None is answered exactly where each node was seen taken in its turn, which is the order of their
-/// numbers: each operation sees the next ones taken, or none of them, and together they see all. So a
-/// node that was seen taken before one below it doesn't count, and where the operations so far have
-/// seen all in turn the machine has ended.
+/// numbers from the first one of the word with which the machine began: each operation sees the next
+/// ones taken, or none of them, and together they see all. Behind the last node comes the first one,
+/// and no operation sees nodes on both sides. So a node that was seen taken before its turn doesn't
+/// count, and where the operations so far have seen all in turn the machine has ended.
 pub fn none_where_taken_in_turn()
     ensures { NoneWhereTakenInTurn }
+{}
+
+/// The words of the map are loaded one behind the other, from the one with which the machine began on,
+/// and behind the last one from the first on: each at most once. Where none is answered all were.
+pub fn looks_once()
+    ensures { LooksOnce }
+{}
+
+/// A machine that began with the first word goes on to the next word each time, and ends behind the
+/// last one: it never begins anew.
+pub fn words_in_order()
+    ensures { WordsInOrder }
 {}
 
 /// Giving a node back sets its bit and no other.

@@ -2,9 +2,9 @@
 
 ghost use Rattle.std.specs.Prelude.{◌≡◌, ◌<◌};
 ghost use Rattle.rht_words.specs.Operations.{op_place};
-ghost use Rattle.rht_words.specs.Places.{words_in};
+ghost use Rattle.rht_words.specs.Places.{map_words, words_in};
 ghost use Rattle.rht_arena.specs.TakeNode.{take_node_after, IsNodeIn};
-ghost use Rattle.rht_arena.specs.NewNode.{new_node_new, new_node_plan, new_node_after, new_node_after_at, node_taken, IsNewNodeAtIn};
+ghost use Rattle.rht_arena.specs.NewNode.{new_node_from, new_node_new, new_node_plan, new_node_after, new_node_after_at, node_taken, IsNewNodeAtIn};
 
 use crate::take_node::TakeNode;
 use rht_words::{Geometry, Next, Op};
@@ -52,12 +52,21 @@ impl NewNode {
     pub fn new(geometry: Geometry, key: u64, owner: u32) -> NewNode
         ensures { result ≡ new_node_new geometry key owner }
     {
+        NewNode::from(geometry, key, owner, 0)
+    }
+
+    /// Before a node is taken, for which it looks from this word of the map on.
+    #[inline(always)]
+    pub fn from(geometry: Geometry, key: u64, owner: u32, start: u32) -> NewNode
+        requires { start < map_words geometry.nodes }
+        ensures { result ≡ new_node_from geometry key owner start }
+    {
         NewNode {
             geometry,
             key,
             owner,
             at: NewNodeAt::Taking {
-                take: TakeNode::new(geometry),
+                take: TakeNode::from(geometry, start),
             },
         }
     }

@@ -1,10 +1,10 @@
-//! Taking a free node: the words of the node map are looked through from the first on, and the
-//! lowest bit that is seen set is cleared.
+//! Taking a free node: the words of the node map are looked through from one on, each once, and the
+//! lowest bit that is seen set is cleared. Behind the last word comes the first.
 
 ghost use Rattle.std.specs.Prelude.{◌≡◌, ◌<◌, IfSome};
 ghost use Rattle.rht_words.specs.Operations.{op_place};
 ghost use Rattle.rht_words.specs.Places.{words_in, map_words};
-ghost use Rattle.rht_arena.specs.TakeNode.{take_node_new, take_node_plan, take_node_after, claim_among, IsNodeIn};
+ghost use Rattle.rht_arena.specs.TakeNode.{take_node_from, take_node_new, take_node_plan, take_node_after, claim_among, word_behind, IsNodeIn};
 
 use rht_words::{Geometry, Next, Op, bit_of, bits_above, lowest_free};
 use std::marker::Model;
@@ -22,6 +22,7 @@ pub enum TakeNodeAt {
 #[derive(Clone, Copy)]
 pub struct TakeNode {
     geometry: Geometry,
+    start: u32,
     at: TakeNodeAt,
 }
 
@@ -30,9 +31,9 @@ impl Model for TakeNode {
 
     ghost Value = { TakeNodeModel };
 
-    ghost view = { λ m. record { geometry = m.geometry; at = m.at } };
+    ghost view = { λ m. record { geometry = m.geometry; start = m.start; at = m.at } };
 
-    ghost inverse = { λ m. record { geometry = m.geometry; at = m.at } };
+    ghost inverse = { λ m. record { geometry = m.geometry; start = m.start; at = m.at } };
 
     ghost invariant = { λ m. IsTakeAtIn m.geometry m.at };
 }
@@ -43,9 +44,19 @@ impl TakeNode {
     pub fn new(geometry: Geometry) -> TakeNode
         ensures { result ≡ take_node_new geometry }
     {
+        TakeNode::from(geometry, 0)
+    }
+
+    /// Before this word of the map.
+    #[inline(always)]
+    pub fn from(geometry: Geometry, start: u32) -> TakeNode
+        requires { start < map_words geometry.nodes }
+        ensures { result ≡ take_node_from geometry start }
+    {
         TakeNode {
             geometry,
-            at: TakeNodeAt::MapWord { index: 0 },
+            start,
+            at: TakeNodeAt::MapWord { index: start },
         }
     }
 
@@ -100,11 +111,27 @@ impl TakeNode {
         let mut machine = self;
         if let Some(bit) = lowest_free(machine.geometry.nodes, index, word) {
             machine.at = TakeNodeAt::Claim { index, bit };
-        } else if index + 1 < machine.geometry.node_map_words() {
-            machine.at = TakeNodeAt::MapWord { index: index + 1 };
         } else {
-            return (machine, Next::Done(None));
+            let next = word_behind(machine.geometry, index);
+            if next == machine.start {
+                return (machine, Next::Done(None));
+            }
+            machine.at = TakeNodeAt::MapWord { index: next };
         }
         (machine, Next::Go)
+    }
+}
+
+/// The word of the map behind this one; behind the last one the first.
+#[inline(always)]
+fn word_behind(geometry: Geometry, index: u32) -> u32
+    requires { index < map_words geometry.nodes }
+    ensures behind { result ≡ word_behind geometry index }
+    ensures within { result < map_words geometry.nodes }
+{
+    if index + 1 < geometry.node_map_words() {
+        index + 1
+    } else {
+        0
     }
 }

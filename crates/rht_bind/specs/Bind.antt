@@ -14,6 +14,7 @@ use Rattle.rht_words.specs.Links.{table_of, slot_of, future_of, link_of, head_of
 use Rattle.rht_words.specs.Planned.{IsWord}
 use Rattle.rht_words.specs.Ports.{IsPort, word_of, owner_of}
 use Rattle.rht_words.specs.Shapes.{size_of, unpacked}
+use Rattle.rht_words.specs.Ways.{start_in}
 use Rattle.rht_words.specs.Places.{CurrentTable, PortCount, Slot, FutureWord, Node, ChainLink, OwnerWord, ListLink, place_of}
 use Rattle.rht_policy.specs.Thresholds.{is_above_75, is_above_100, is_above_max}
 use Rattle.rht_grace.specs.Sections.{turning}
@@ -26,7 +27,7 @@ use Rattle.rht_nest.specs.Place.{PlaceModel, entry_place, entered, IsPlaceIn}
 use Rattle.rht_nest.specs.Grow.{GrowModel, grow_new, grow_plan, grow_after, IsGrowIn}
 use Rattle.rht_nest.specs.Make.{make_plan, make_after}
 use Rattle.rht_nest.specs.Unmake.{unmake_plan, unmake_after}
-use Rattle.rht_arena.specs.NewNode.{NewNodeModel, new_node_new, new_node_plan, new_node_after, IsNewNodeIn}
+use Rattle.rht_arena.specs.NewNode.{NewNodeModel, new_node_from, new_node_plan, new_node_after, IsNewNodeIn}
 use Rattle.rht_arena.specs.GiveNode.{give_node_plan, IsGiveIn}
 use Rattle.rht_chain.specs.Probe.{ProbeModel, probe_new, probe_plan, probe_after, IsProbeIn}
 use Rattle.rht_chain.specs.declared.probe.Probed.{Probed}
@@ -58,13 +59,17 @@ pub record BindModel : Type 0 where
   pub once : Bool
   pub at : BindAt
 
--- it begins with a new node of the port and the owner
-abbrev pub first_state : Env → ℕ → ℕ → BindAt
-first_state env port owner = at.Filling (new_node_new env.geometry (word_of port) owner)
+-- it begins with a new node of the port and the owner, for which it looks from this word of the map on
+abbrev pub first_state : Env → ℕ → ℕ → ℕ → BindAt
+first_state env port owner start = at.Filling (new_node_from env.geometry (word_of port) owner (start_in env start))
 
+abbrev pub bind_from : Env → ℕ → ℕ → ℕ → Bool → ℕ → BindModel
+bind_from env caller port owner once start =
+    record { env = env; caller = caller; port = port; owner = owner; once = once; at = first_state env port owner start }
+
+-- or from the first one on
 abbrev pub bind_new : Env → ℕ → ℕ → ℕ → Bool → BindModel
-bind_new env caller port owner once =
-    record { env = env; caller = caller; port = port; owner = owner; once = once; at = first_state env port owner }
+bind_new env caller port owner once = bind_from env caller port owner once 0
 
 -- the state's one operation
 abbrev pub plan_at : Env → ℕ → BindAt → Op

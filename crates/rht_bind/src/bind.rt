@@ -6,7 +6,7 @@ ghost use Rattle.rht_words.specs.Places.{words_in};
 ghost use Rattle.rht_arena.specs.NewNode.{new_node_after};
 ghost use Rattle.rht_chain.specs.Locked.{IsThenIn};
 ghost use Rattle.rht_chain.specs.Probe.{probe_after};
-ghost use Rattle.rht_bind.specs.Bind.{bind_new, bind_plan, bind_after, after_at, filled, probed, unlocking, unlocked, IsBindAtIn};
+ghost use Rattle.rht_bind.specs.Bind.{bind_from, bind_new, bind_plan, bind_after, after_at, filled, probed, unlocking, unlocked, IsBindAtIn};
 
 mod bucket;
 mod ending;
@@ -250,6 +250,15 @@ impl<M: Mix> Bind<M> {
         requires { caller < 16 }
         ensures { result ≡ bind_new env caller port owner once }
     {
+        Bind::from(env, caller, port, owner, once, 0)
+    }
+
+    /// The same, where it looks for a free node from this word of the node map on.
+    #[inline(always)]
+    pub fn from(env: Env, caller: u32, port: Port, owner: u32, once: bool, start: u32) -> Bind<M>
+        requires { caller < 16 }
+        ensures { result ≡ bind_from env caller port owner once start }
+    {
         Bind {
             env,
             caller,
@@ -257,7 +266,7 @@ impl<M: Mix> Bind<M> {
             owner,
             once,
             at: BindAt::Filling {
-                new: NewNode::new(env.geometry, word_of(port), owner),
+                new: NewNode::from(env.geometry, word_of(port), owner, env.start_in(start)),
             },
             mix: PhantomData,
         }

@@ -19,7 +19,7 @@ use Rattle.rht_callers.specs.declared.local.Local.{Local}
 use Rattle.rht_callers.specs.declared.local.Doing.{Doing}
 use Rattle.rht_callers.specs.declared.local.Doing.TheVariants.{Idle, Finding, Binding, Listing, Releasing, Rebinding, Working, Counting, Tidying, Walking}
 use Rattle.rht_callers.specs.Batches.{IsBatchIn, AreNodesIn, HasWords, IsSoundBatch, CanPut, with_out, node_out, out_of, batch_given, batch_room, batch_beside, batch_after}
-use Rattle.rht_callers.specs.Locals.{does_nothing, is_idle, machine_of, doing_after, doing_next, without_node}
+use Rattle.rht_callers.specs.Locals.{does_nothing, is_idle, machine_from, doing_after, doing_next, without_node}
 use Rattle.rht_find.specs.Find.{find_after}
 use Rattle.rht_bind.specs.Bind.{bind_after}
 use Rattle.rht_release.specs.All.{all_after}
@@ -128,12 +128,12 @@ module _ (M : Type 0) where
       go _ idle is = absurd (cc)
 
   -- who has begun has what it had, or its tidying has it: the same nodes, of which none is fresh then where none waited
-  pub begun-batch : (So : Option BatchModel → Type 0) (env : Env) (c : ℕ) (batch : Option BatchModel) (call : Call) (machine : Doing M)
-      → machine_of env c batch call ≡ Some machine → So batch
+  pub begun-batch : (So : Option BatchModel → Type 0) (env : Env) (c : ℕ) (batch : Option BatchModel) (start : ℕ) (call : Call) (machine : Doing M)
+      → machine_from env c batch call start ≡ Some machine → So batch
       → ((own : BatchModel) → batch ≡ Some own → So (Some (begun own).0))
       → So (batch_room machine (batch_beside machine batch))
-  begun-batch So env c batch =
-      begins_so M env c batch
+  begun-batch So env c batch start =
+      begins_so M env c batch start
       (λ call machine. So batch → ((own : BatchModel) → batch ≡ Some own → So (Some (begun own).0))
       → So (batch_room machine (batch_beside machine batch)))
       (λ port is tidies. is) (λ port owner once is tidies. is) (λ port is tidies. is) (λ port owner is tidies. is)

@@ -7,14 +7,14 @@ use Rattle.rht_model.specs.declared.history.Call.{Call}
 use Rattle.rht_model.specs.declared.history.Call.TheVariants.{Bind, Find, Release, Rebind, All, Walk, Work, Tidy, Count}
 use Rattle.rht_model.specs.declared.history.Cursor.{Cursor}
 use Rattle.rht_find.specs.Find.{find_new}
-use Rattle.rht_bind.specs.Bind.{bind_new}
+use Rattle.rht_bind.specs.Bind.{bind_from}
 use Rattle.rht_release.specs.All.{all_new}
 use Rattle.rht_callers.specs.declared.local.Local.{Local}
 use Rattle.rht_callers.specs.declared.local.Doing.{Doing}
 use Rattle.rht_callers.specs.declared.local.Doing.TheVariants.{Idle, Finding, Binding, Releasing, Rebinding, Listing, Working, Counting, Tidying, Walking}
-use Rattle.rht_callers.specs.Locals.{room_for_nodes, does_nothing, is_idle, machine_of, tidying_of, doing_plan, plan_of}
+use Rattle.rht_callers.specs.Locals.{room_for_nodes, does_nothing, is_idle, machine_from, tidying_of, doing_plan, plan_of}
 use Rattle.rht_release.specs.Release.{release_new}
-use Rattle.rht_release.specs.Rebind.{rebind_new}
+use Rattle.rht_release.specs.Rebind.{rebind_from}
 use Rattle.rht_move.specs.Work.{work_new}
 use Rattle.rht_grace.specs.Batch.{BatchModel}
 use Rattle.rht_grace.specs.Tidy.{tidy_new}
@@ -23,12 +23,12 @@ use Rattle.rht_walk.specs.Walk.{walk_new}
 module _ (M : Type 0) where
   -- A call begins as a look-up, a bind, a listing, a release, a rebind, a resizing, a reading of the count, a
   -- tidying of its caller's batch, or a walk. What is so of these is so of whatever begins.
-  module _ (env : Env) (c : ℕ) (batch : Option BatchModel) (So : Call → Doing M → Type 0)
+  module _ (env : Env) (c : ℕ) (batch : Option BatchModel) (start : ℕ) (So : Call → Doing M → Type 0)
       (find : (port : ℕ) → So (Find port) (Finding (find_new env c port)))
-      (bind : (port owner : ℕ) (once : Bool) → So (Bind port owner once) (Binding (bind_new env c port owner once)))
+      (bind : (port owner : ℕ) (once : Bool) → So (Bind port owner once) (Binding (bind_from env c port owner once start)))
       (list : (port : ℕ) → So (All port) (Listing (all_new env c port (room_for_nodes env))))
       (release : (port owner : ℕ) → So (Release port owner) (Releasing (release_new env c port owner)))
-      (rebind : (port owner new : ℕ) → So (Rebind port owner new) (Rebinding (rebind_new env c port owner new)))
+      (rebind : (port owner new : ℕ) → So (Rebind port owner new) (Rebinding (rebind_from env c port owner new start)))
       (work : So Work (Working (work_new env c)))
       (count : So Count (Counting (record { env = env })))
       (tidy : (own : BatchModel) → batch ≡ Some own → So Tidy (Tidying (tidy_new env.geometry own)))
@@ -43,7 +43,7 @@ module _ (M : Type 0) where
       tidying-so None is = tt
       tidying-so (Some own) is = tidy own is
 
-      machine-so : (call : Call) → BeginsSo call (machine_of env c batch call)
+      machine-so : (call : Call) → BeginsSo call (machine_from env c batch call start)
       machine-so (Find port) = find port
       machine-so (Bind port owner once) = bind port owner once
       machine-so (All port) = list port
@@ -54,7 +54,7 @@ module _ (M : Type 0) where
       machine-so Count = count
       machine-so (Walk from limit) = walk from limit
 
-      pub begins_so : (call : Call) (machine : Doing M) → machine_of env c batch call ≡ Some machine
+      pub begins_so : (call : Call) (machine : Doing M) → machine_from env c batch call start ≡ Some machine
           → So call machine
       begins_so call machine is = subst (BeginsSo call) is (machine-so call)
 

@@ -22,7 +22,7 @@ use Rattle.rht_release.specs.declared.all.AllAt.TheVariants as alls
 use Rattle.rht_callers.specs.declared.local.Local.{Local}
 use Rattle.rht_callers.specs.declared.local.Doing.{Doing}
 use Rattle.rht_callers.specs.declared.local.Doing.TheVariants.{Idle, Finding, Binding, Listing, Releasing, Rebinding, Working, Counting, Tidying, Walking}
-use Rattle.rht_callers.specs.Locals.{does_nothing, is_idle, machine_of, doing_after, doing_next, without_node, owners_room, owners_beside, owners_after, room_given, pairs_room, pairs_beside, pairs_after, pairs_given}
+use Rattle.rht_callers.specs.Locals.{does_nothing, is_idle, machine_from, doing_after, doing_next, without_node, owners_room, owners_beside, owners_after, room_given, pairs_room, pairs_beside, pairs_after, pairs_given}
 use Rattle.rht_grace.specs.Tidy.{tidy_after}
 use Rattle.rht_walk.specs.Walk.{Pairs, WalkModel, room_after as shown_after, room_at_end, walk_after}
 use Rattle.rht_walk.specs.declared.walk.WalkAt.{WalkAt}
@@ -68,11 +68,11 @@ module _ (M : Type 0) where
       go _ idle is = absurd (cc)
 
   -- who has begun has it as well, or its listing
-  pub begun-limit : (env : Env) (c : ℕ) (batch : Option BatchModel) (call : Call) (machine : Doing M)
-      → machine_of env c batch call ≡ Some machine → (room : Kept ℕ) → room.limit ≡ env.geometry.nodes
+  pub begun-limit : (env : Env) (c : ℕ) (batch : Option BatchModel) (start : ℕ) (call : Call) (machine : Doing M)
+      → machine_from env c batch call start ≡ Some machine → (room : Kept ℕ) → room.limit ≡ env.geometry.nodes
       → (owners_room machine (owners_beside machine room)).limit ≡ env.geometry.nodes
-  begun-limit env c batch =
-      begins_so M env c batch
+  begun-limit env c batch start =
+      begins_so M env c batch start
       (λ call machine. (room : Kept ℕ) → room.limit ≡ env.geometry.nodes
       → (owners_room machine (owners_beside machine room)).limit ≡ env.geometry.nodes)
       (λ port room is. is) (λ port owner once room is. is) (λ port room is. refl) (λ port owner room is. is)
@@ -143,11 +143,11 @@ module _ (M : Type 0) where
       go _ idle is = absurd (cc)
 
   -- who has begun has it as well, or its walk
-  pub begun-pairs : (env : Env) (c : ℕ) (batch : Option BatchModel) (call : Call) (machine : Doing M)
-      → machine_of env c batch call ≡ Some machine → (room : Pairs) → room.limit ≡ env.geometry.nodes
+  pub begun-pairs : (env : Env) (c : ℕ) (batch : Option BatchModel) (start : ℕ) (call : Call) (machine : Doing M)
+      → machine_from env c batch call start ≡ Some machine → (room : Pairs) → room.limit ≡ env.geometry.nodes
       → (pairs_room machine (pairs_beside machine room)).limit ≡ env.geometry.nodes
-  begun-pairs env c batch =
-      begins_so M env c batch
+  begun-pairs env c batch start =
+      begins_so M env c batch start
       (λ call machine. (room : Pairs) → room.limit ≡ env.geometry.nodes
       → (pairs_room machine (pairs_beside machine room)).limit ≡ env.geometry.nodes)
       (λ port room is. is) (λ port owner once room is. is) (λ port room is. is) (λ port owner room is. is)

@@ -10,10 +10,10 @@ use Rattle.rht_model.specs.declared.history.Reply.{Reply}
 use Rattle.rht_model.specs.Rooms.{Kept, emptied, no_room}
 use Rattle.rht_model.specs.Endings.{Ending}
 use Rattle.rht_find.specs.Find.{find_new, find_plan, find_after}
-use Rattle.rht_bind.specs.Bind.{bind_new, bind_plan, bind_after}
+use Rattle.rht_bind.specs.Bind.{bind_from, bind_plan, bind_after}
 use Rattle.rht_release.specs.All.{AllModel, all_new, all_plan, all_after}
 use Rattle.rht_release.specs.Release.{release_new, release_plan, release_after}
-use Rattle.rht_release.specs.Rebind.{rebind_new, rebind_plan, rebind_after}
+use Rattle.rht_release.specs.Rebind.{rebind_from, rebind_plan, rebind_after}
 use Rattle.rht_move.specs.Work.{work_new, work_plan, work_after}
 use Rattle.rht_grace.specs.Batch.{BatchModel, batch_new}
 use Rattle.rht_grace.specs.Tidy.{tidy_new, tidy_plan, tidy_after}
@@ -64,17 +64,22 @@ module _ {M : Type 0} where
   tidying_of env None = None
   tidying_of env (Some batch) = Some (Tidying (tidy_new env.geometry batch))
 
-  -- what a caller does that has this batch and is given a call; none for a tidying without one
+  -- what a caller does that has this batch and is given a call, and the word of the node map from which on it is to look for a free
+  -- node; none for a tidying without a batch
+  abbrev pub machine_from : Env → ℕ → Option BatchModel → Call → ℕ → Option (Doing M)
+  machine_from env caller batch (Find port) start = Some (Finding (find_new env caller port))
+  machine_from env caller batch (Bind port owner once) start = Some (Binding (bind_from env caller port owner once start))
+  machine_from env caller batch (All port) start = Some (Listing (all_new env caller port (room_for_nodes env)))
+  machine_from env caller batch (Release port owner) start = Some (Releasing (release_new env caller port owner))
+  machine_from env caller batch (Rebind port owner new) start = Some (Rebinding (rebind_from env caller port owner new start))
+  machine_from env caller batch Work start = Some (Working (work_new env caller))
+  machine_from env caller batch Tidy start = tidying_of env batch
+  machine_from env caller batch (Walk from limit) start = Some (Walking (walk_new env caller from limit (room_for_nodes env)))
+  machine_from env caller batch Count start = Some (Counting (record { env = env }))
+
+  -- the same from the first word on
   abbrev pub machine_of : Env → ℕ → Option BatchModel → Call → Option (Doing M)
-  machine_of env caller batch (Find port) = Some (Finding (find_new env caller port))
-  machine_of env caller batch (Bind port owner once) = Some (Binding (bind_new env caller port owner once))
-  machine_of env caller batch (All port) = Some (Listing (all_new env caller port (room_for_nodes env)))
-  machine_of env caller batch (Release port owner) = Some (Releasing (release_new env caller port owner))
-  machine_of env caller batch (Rebind port owner new) = Some (Rebinding (rebind_new env caller port owner new))
-  machine_of env caller batch Work = Some (Working (work_new env caller))
-  machine_of env caller batch Tidy = tidying_of env batch
-  machine_of env caller batch (Walk from limit) = Some (Walking (walk_new env caller from limit (room_for_nodes env)))
-  machine_of env caller batch Count = Some (Counting (record { env = env }))
+  machine_of env caller batch call = machine_from env caller batch call 0
 
   -- the operation that it performs next
   abbrev pub doing_plan : Doing M → Option Op

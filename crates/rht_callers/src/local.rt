@@ -4,7 +4,7 @@ ghost use Rattle.std.specs.Prelude.{◌≡◌, ◌<◌, IfSome, IfOk, Some};
 ghost use Rattle.rht_words.specs.Operations.{op_place};
 ghost use Rattle.rht_words.specs.Places.{words_in};
 ghost use Rattle.rht_words.specs.declared.env.Env.{Env};
-ghost use Rattle.rht_callers.specs.Locals.{does_nothing, is_idle, machine_of, doing_plan, plan_of, doing_after, without_node, owners_after, pairs_after, local_after, begun_with, fresh, IsDoingOf, IsLocalOf};
+ghost use Rattle.rht_callers.specs.Locals.{does_nothing, is_idle, machine_from, machine_of, doing_plan, plan_of, doing_after, without_node, owners_after, pairs_after, local_after, begun_with, fresh, IsDoingOf, IsLocalOf};
 ghost use Rattle.rht_callers.specs.Batches.{with_out, node_out, out_of, batch_after, IsBatchIn, CanPut};
 
 use crate::count::PortCount;
@@ -214,17 +214,28 @@ impl<M: Mix> Local<M> {
         requires caller { caller < 16 }
         ensures { self.new ≡ begun_with self.old (machine_of env caller self.old.batch call) }
     {
+        self.begin_from(env, caller, call, 0);
+    }
+
+    /// The same, where the call looks for a free node from this word of the node map on, if it takes one.
+    pub fn begin_from(&mut self, env: Env, caller: u32, call: Call, start: u32)
+        requires owners { self.old.owners.limit ≡ env.geometry.nodes }
+        requires pairs { self.old.pairs.limit ≡ env.geometry.nodes }
+        requires batch { IsBatchIn env self.old.batch }
+        requires caller { caller < 16 }
+        ensures { self.new ≡ begun_with self.old (machine_from env caller self.old.batch call start) }
+    {
         let doing = match call {
             Call::Find { port } => Doing::Finding(Find::new(env, caller, port)),
             Call::Bind { port, owner, once } => {
-                Doing::Binding(Bind::new(env, caller, port, owner, once))
+                Doing::Binding(Bind::from(env, caller, port, owner, once, start))
             }
             Call::All { port } => Doing::Listing(All::new(env, caller, port, self.owners.take())),
             Call::Release { port, owner } => {
                 Doing::Releasing(Release::new(env, caller, port, owner))
             }
             Call::Rebind { port, owner, new } => {
-                Doing::Rebinding(Rebind::new(env, caller, port, owner, new))
+                Doing::Rebinding(Rebind::from(env, caller, port, owner, new, start))
             }
             Call::Work => Doing::Working(Work::new(env, caller)),
             Call::Count => Doing::Counting(PortCount { env }),

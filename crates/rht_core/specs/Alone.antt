@@ -36,7 +36,7 @@ module _ (M : Type 0) (mix : ℕ → ℕ → ℕ → ℕ) where
 
   -- the events of one call: its beginning and so many operations
   abbrev pub call_events : ℕ → Call → ℕ → List Event
-  call_events c call count = Begin c call ∷ replicate count (Step c)
+  call_events c call count = Begin c call 0 ∷ replicate count (Step c)
 
   -- a call about bindings whose events stand together while nobody else is in a call, and which has ended, meets the model with its
   -- reply and its list; and its reply has its cause

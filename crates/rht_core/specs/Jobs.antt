@@ -85,21 +85,21 @@ abbrev pub first_tidy : Option BatchModel → Option Job
 first_tidy None = None
 first_tidy (Some batch) = Some (tidying (tidy.begun batch))
 
--- it is that of a caller who has this batch
-abbrev pub first_job : Env → Option BatchModel → Call → Option Job
-first_job env batch (Find port) = Some (finds port Opening)
-first_job env batch (Bind port owner once) = Some (binds port owner once (bind.first_state env port owner))
-first_job env batch (All port) = Some (lists port (room_for_nodes env) alls.Opening)
-first_job env batch (Release port owner) = Some (releases port owner releasing.Opening)
-first_job env batch (Rebind port owner new) = Some (rebinds port owner new (rebind.first_state env port new))
-first_job env batch (Walk from limit) = Some (walks from limit (room_for_nodes env) walks_at.Opening)
-first_job env batch Work = Some (works works_at.WorkLock)
-first_job env batch Tidy = first_tidy batch
-first_job env batch Count = Some counts
+-- it is that of a caller who has this batch, and looks for a free node from this word on
+abbrev pub first_job : Env → Option BatchModel → Call → ℕ → Option Job
+first_job env batch (Find port) start = Some (finds port Opening)
+first_job env batch (Bind port owner once) start = Some (binds port owner once (bind.first_state env port owner start))
+first_job env batch (All port) start = Some (lists port (room_for_nodes env) alls.Opening)
+first_job env batch (Release port owner) start = Some (releases port owner releasing.Opening)
+first_job env batch (Rebind port owner new) start = Some (rebinds port owner new (rebind.first_state env port new start))
+first_job env batch (Walk from limit) start = Some (walks from limit (room_for_nodes env) walks_at.Opening)
+first_job env batch Work start = Some (works works_at.WorkLock)
+first_job env batch Tidy start = first_tidy batch
+first_job env batch Count start = Some counts
 
--- so the call may begin, with some batch
+-- so the call may begin, with some batch and from some word
 abbrev pub IsFirstJob : Env → Call → Job → Type 0
-IsFirstJob env call job = (batch : Option BatchModel) × (first_job env batch call ≡ Some job)
+IsFirstJob env call job = (batch : Option BatchModel) × (start : ℕ) × (first_job env batch call start ≡ Some job)
 
 -- the operation that this caller performs next for it
 abbrev pub job_plan : Env → ℕ → Job → Op

@@ -89,7 +89,8 @@ pub record IsTraceOf (book : Book) (trace : Trace) : Type 0 where
 
 -- the call in progress began at its event, behind all events of the past ones, and its steps come behind it in order
 pub record IsInProgress (events : List Event) (c : ℕ) (trace : Trace) (call : Call) : Type 0 where
-  pub began : slice_get events trace.begin ≡ Some (Begin c call)
+  pub start : ℕ
+  pub began : slice_get events trace.begin ≡ Some (Begin c call start)
   pub behind : behind_calls 0 trace.past ≤ trace.begin
   pub rising : IsRising (trace.begin + 1) trace.steps
 
@@ -147,7 +148,7 @@ IsTakenIn g Count reply steps = TakesNone g steps
 -- the event is no enrolling
 abbrev pub IsOfCaller : Event → Type 0
 IsOfCaller Enroll = ⊥
-IsOfCaller (Begin c call) = Unit {0}
+IsOfCaller (Begin c call start) = Unit {0}
 IsOfCaller (Step c) = Unit {0}
 
 module _ (M : Type 0) (mix : ℕ → ℕ → ℕ → ℕ) where
@@ -233,7 +234,8 @@ module _ (M : Type 0) (mix : ℕ → ℕ → ℕ → ℕ) where
 
   -- a past call began at its event, its steps are recorded, and the last one answered it
   pub record IsPastCall (env : Env) (events : List Event) (c : ℕ) (past : Past) : Type 0 where
-    pub began : slice_get events past.begin ≡ Some (Begin c past.done.call)
+    pub start : ℕ
+    pub began : slice_get events past.begin ≡ Some (Begin c past.done.call start)
     pub steps : AllByRecursion (IsRecorded env events c) past.steps
     pub answered : IsAnsweredAt env events c past
 

@@ -21,7 +21,7 @@ use Rattle.rht_core.specs.declared.book.Book.{Book}
 use Rattle.rht_callers.specs.declared.local.Local.{Local}
 use Rattle.rht_callers.specs.declared.local.Doing.{Doing}
 use Rattle.rht_callers.specs.Batches.{CanPut, out_of}
-use Rattle.rht_callers.specs.Locals.{fresh, is_idle, machine_of, begin_with, plan_of, local_after, ending_of, IsLocalOf}
+use Rattle.rht_callers.specs.Locals.{fresh, is_idle, machine_from, begin_with, plan_of, local_after, ending_of, IsLocalOf}
 
 -- what the program keeps of a run: the words, how many callers have enrolled, and what each is doing
 pub record Core (M : Type 0) : Type 0 where
@@ -58,18 +58,18 @@ module _ {M : Type 0} where
   abbrev pub local_of : Core M → ℕ → Local M
   local_of core c = local_in core.env core.locals c
 
-  -- what a caller does that is given this call; none where it isn't enrolled or is in a call, or where a tidying has no batch
-  abbrev pub beginning : Env → ℕ → List (Local M) → ℕ → Call → Option (Doing M)
-  beginning env enrolled locals c call =
-      if nat_lt c enrolled && is_idle (local_in env locals c) then machine_of env c (local_in env locals c).batch call else None
+  -- what a caller does that is given this call, and the word from which on it is to look for a free node; none where it isn't enrolled or is in a call, or where a tidying has no batch
+  abbrev pub beginning : Env → ℕ → List (Local M) → ℕ → Call → ℕ → Option (Doing M)
+  beginning env enrolled locals c call start =
+      if nat_lt c enrolled && is_idle (local_in env locals c) then machine_from env c (local_in env locals c).batch call start else None
 
   -- the callers after one of them has begun with what it does
   abbrev pub with_machine : Env → List (Local M) → ℕ → Option (Doing M) → List (Local M)
   with_machine env locals c None = locals
   with_machine env locals c (Some doing) = slice_set locals c (begin_with (local_in env locals c) doing)
 
-  abbrev pub begun : Env → ℕ → List (Local M) → ℕ → Call → List (Local M)
-  begun env enrolled locals c call = with_machine env locals c (beginning env enrolled locals c call)
+  abbrev pub begun : Env → ℕ → List (Local M) → ℕ → Call → ℕ → List (Local M)
+  begun env enrolled locals c call start = with_machine env locals c (beginning env enrolled locals c call start)
 
   -- the operation that a caller performs next; none where it isn't enrolled or is idle
   abbrev pub planned : Env → ℕ → List (Local M) → ℕ → Option Op
@@ -79,8 +79,8 @@ module _ {M : Type 0} where
   abbrev pub planned_in : Core M → ℕ → Option Op
   planned_in core c = planned core.env core.enrolled core.locals c
 
-  abbrev pub beginning_in : Core M → ℕ → Call → Option (Doing M)
-  beginning_in core c call = beginning core.env core.enrolled core.locals c call
+  abbrev pub beginning_in : Core M → ℕ → Call → ℕ → Option (Doing M)
+  beginning_in core c call start = beginning core.env core.enrolled core.locals c call start
 
   module _ (mix : ℕ → ℕ → ℕ → ℕ) where
     -- a caller has performed this operation, and is told the word's old value
@@ -99,8 +99,8 @@ module _ {M : Type 0} where
         let op = enrolling core.env in
         let old = old_of core.words op in
         (record core { words = applied core.words op; enrolled = enrolled_after core.env core.enrolled old }, has_done op old None)
-    core_step core (Begin c call) =
-        (record core { locals = begun core.env core.enrolled core.locals c call }, nothing_done)
+    core_step core (Begin c call start) =
+        (record core { locals = begun core.env core.enrolled core.locals c call start }, nothing_done)
     core_step core (Step c) = with_step core c (planned_in core c)
 
   -- the node that a caller's call hands out at its next operation may be put into its batch
@@ -166,7 +166,7 @@ IsAdmittedCall _ = Unit {0}
 
 abbrev pub IsAdmittedEvent : Event → Type 0
 IsAdmittedEvent Enroll = Unit {0}
-IsAdmittedEvent (Begin c call) = (c < 2 ^ 32) × IsAdmittedCall call
+IsAdmittedEvent (Begin c call start) = (c < 2 ^ 32) × IsAdmittedCall call
 IsAdmittedEvent (Step c) = c < 2 ^ 32
 
 abbrev pub IsAdmitted : List Event → Type 0
@@ -201,8 +201,8 @@ module _ {M : Type 0} where
 
     abbrev pub books_after : World M → Event → ℕ → Book
     books_after w Enroll = w.books
-    books_after w (Begin c call) =
-        books_begun w.books c call (beginning_in w.core c call)
+    books_after w (Begin c call start) =
+        books_begun w.books c call (beginning_in w.core c call start)
     books_after w (Step c) = books_stepped w c (planned_in w.core c)
 
     abbrev pub world_step : World M → Event → World M

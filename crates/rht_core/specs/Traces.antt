@@ -75,8 +75,8 @@ module _ {M : Type 0} where
 
     abbrev pub traces_after : Traced M → Event → ℕ → Trace
     traces_after r Enroll = r.traces
-    traces_after r (Begin c call) =
-        traces_begun r c (beginning_in r.world.core c call)
+    traces_after r (Begin c call start) =
+        traces_begun r c (beginning_in r.world.core c call start)
     traces_after r (Step c) = traces_stepped r c (planned_in r.world.core c)
 
     abbrev pub traced_step : Traced M → Event → Traced M

@@ -148,8 +148,12 @@ fn perform<M: Mix>(
 {
     match event {
         Event::Enroll => enroll(env, words, enrolled),
-        Event::Begin { caller, call } => {
-            begin(env, *enrolled, locals, caller, call);
+        Event::Begin {
+            caller,
+            call,
+            start,
+        } => {
+            begin(env, *enrolled, locals, caller, call, start);
             NOTHING
         }
         Event::Step { caller } => step(env, words, *enrolled, locals, caller),
@@ -175,16 +179,23 @@ fn enroll(env: Env, words: &mut Vec<u64>, enrolled: &mut u32) -> Stepped
 }
 
 /// Gives a caller a call, where it can be given one.
-fn begin<M: Mix>(env: Env, enrolled: u32, locals: &mut Vec<Local<M>>, caller: u32, call: Call)
+fn begin<M: Mix>(
+    env: Env,
+    enrolled: u32,
+    locals: &mut Vec<Local<M>>,
+    caller: u32,
+    call: Call,
+    start: u32,
+)
     requires enrolled { enrolled ≤ env.geometry.callers }
     requires locals { length locals.old.items ≡ env.geometry.callers }
     requires env { AllByRecursion (IsLocalOf env) locals.old.items }
-    ensures { locals.new.items ≡ begun env enrolled locals.old.items caller call }
+    ensures { locals.new.items ≡ begun env enrolled locals.old.items caller call start }
 {
     if caller < enrolled {
         let local = &mut locals[caller as usize];
         if local.is_idle() {
-            local.begin(env, caller, call);
+            local.begin_from(env, caller, call, start);
         }
     }
 }

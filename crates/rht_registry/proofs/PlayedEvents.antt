@@ -64,7 +64,7 @@ module _ {M : Type 0} (mix : ℕ → ℕ → ℕ → ℕ) (p : Playing M) (c : �
 
   -- another is given the next one
   pub readied-some : (call : Call) (calls : List Call) → is_idle (local_of p.core c) ≡ true → p.left c ≡ call ∷ calls
-      → readied mix p c ≡ record p { core = (core_step mix p.core (Begin c call)).0; left = left_at p.left c calls }
+      → readied mix p c ≡ record p { core = (core_step mix p.core (Begin c call 0)).0; left = left_at p.left c calls }
   readied-some call calls idle some = ap (λ t. cond t (given mix p c (p.left c)) p) idle ∙ ap (given mix p c) some
 
   -- the limit stands in the place of one event too many
@@ -81,15 +81,15 @@ module _ {M : Type 0} (mix : ℕ → ℕ → ℕ → ℕ) (commands : List (ℕ 
   pub readied-player : (before mid after : Player M) (call : Call) (stepped : Stepped)
       → is_idle (local_of before.state c) ≡ true
       → Takes (playing_of commands before) (playing_of commands mid) c (Some call) → mid.state ≡ before.state
-      → (after.state, stepped) ≡ core_step mix mid.state (Begin c call)
+      → (after.state, stepped) ≡ core_step mix mid.state (Begin c call 0)
       → after.next.items ≡ mid.next.items → after.made ≡ mid.made → after.over ≡ mid.over
       → playing_of commands after ≡ readied mix (playing_of commands before) c
   readied-player before mid after call stepped idle takes state is next made over =
       let p = playing_of commands before in
       let calls = takes.0 in
-      let core : after.state ≡ (core_step mix p.core (Begin c call)).0 =
-      ap (λ s. s.0) is ∙ ap (λ (k : Core M). (core_step mix k (Begin c call)).0) state in
-      playing_of-parts commands after (core_step mix p.core (Begin c call)).0 (left_at p.left c calls) p.made p.over core
+      let core : after.state ≡ (core_step mix p.core (Begin c call 0)).0 =
+      ap (λ s. s.0) is ∙ ap (λ (k : Core M). (core_step mix k (Begin c call 0)).0) state in
+      playing_of-parts commands after (core_step mix p.core (Begin c call 0)).0 (left_at p.left c calls) p.made p.over core
       (ap (left_by commands) next ∙ ap (λ (q : Playing M). q.left) takes.2) (made ∙ ap (λ (q : Playing M). q.made) takes.2)
       (over ∙ ap (λ (q : Playing M). q.over) takes.2)
       ∙ sym (readied-some mix p c call calls idle takes.1)

@@ -84,7 +84,7 @@ module _ {M : Type 0} (mix : ℕ → ℕ → ℕ → ℕ) (env : Env) where
       → AllByRecursion (IsAdmittedCall) calls → IsLed (given mix p c calls) (events ++ given_events c calls)
   given-led p c [] events small led may = none-led p events led
   given-led p c (call ∷ calls) events small led may =
-      push-led p (given mix p c (call ∷ calls)) events (Begin c call) led (small, may.0) refl
+      push-led p (given mix p c (call ∷ calls)) events (Begin c call 0) led (small, may.0) refl
       (λ k. left-others env p.left c k calls may.1 (led.left k))
 
   readied-led : (p : Playing M) (c : ℕ) (events : List Event) → c < 2 ^ 32 → IsLed p events

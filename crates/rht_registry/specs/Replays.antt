@@ -90,7 +90,7 @@ module _ {A B : Type 0} where
 -- the beginning of a caller's next command, where one is left
 abbrev pub given_events : ℕ → List Call → List Event
 given_events c [] = []
-given_events c (call ∷ calls) = Begin c call ∷ []
+given_events c (call ∷ calls) = Begin c call 0 ∷ []
 
 module _ {M : Type 0} (mix : ℕ → ℕ → ℕ → ℕ) where
   -- ---- one event
@@ -98,7 +98,7 @@ module _ {M : Type 0} (mix : ℕ → ℕ → ℕ → ℕ) where
   -- a caller is given its next command, without an operation; where none is left nothing happens
   abbrev pub given : Playing M → ℕ → List Call → Playing M
   given p c [] = p
-  given p c (call ∷ calls) = record p { core = (core_step mix p.core (Begin c call)).0; left = left_at p.left c calls }
+  given p c (call ∷ calls) = record p { core = (core_step mix p.core (Begin c call 0)).0; left = left_at p.left c calls }
 
   -- that is, a caller that is in no call
   abbrev pub readied : Playing M → ℕ → Playing M

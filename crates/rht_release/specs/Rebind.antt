@@ -10,12 +10,13 @@ use Rattle.rht_words.specs.Links.{link_of}
 use Rattle.rht_words.specs.Planned.{IsWord}
 use Rattle.rht_words.specs.Ports.{IsPort, word_of}
 use Rattle.rht_words.specs.Places.{Node, ChainLink, ListLink, place_of}
-use Rattle.rht_arena.specs.NewNode.{NewNodeModel, new_node_new, new_node_plan, new_node_after, IsNewNodeIn}
+use Rattle.rht_arena.specs.NewNode.{NewNodeModel, new_node_from, new_node_plan, new_node_after, IsNewNodeIn}
 use Rattle.rht_arena.specs.GiveNode.{give_node_plan, IsGiveIn}
 use Rattle.rht_chain.specs.LockedWalk.{IsNodeOrNone}
 use Rattle.rht_chain.specs.Relink.{RelinkModel, relink_plan, relink_after, IsRelinkIn}
 use Rattle.rht_chain.specs.Unlock.{unlock_plan, IsUnlockIn}
 use Rattle.rht_chain.specs.declared.unlock.Unlock.{Unlock}
+use Rattle.rht_words.specs.Ways.{start_in}
 use Rattle.rht_model.specs.declared.history.Reply.{Reply}
 use Rattle.rht_model.specs.declared.history.Reply.TheVariants.{Rebound, Absent, NoNode}
 use Rattle.rht_grace.specs.Sections.{turning}
@@ -39,19 +40,23 @@ pub record RebindModel : Type 0 where
   pub new_owner : ℕ
   pub at : RebindAt
 
--- it begins with a new node of the port and the new owner
-abbrev pub first_state : Env → ℕ → ℕ → RebindAt
-first_state env port new = at.Filling (new_node_new env.geometry (word_of port) new)
+-- it begins with a new node of the port and the new owner, for which it looks from this word of the map on
+abbrev pub first_state : Env → ℕ → ℕ → ℕ → RebindAt
+first_state env port new start = at.Filling (new_node_from env.geometry (word_of port) new (start_in env start))
 
-abbrev pub rebind_new : Env → ℕ → ℕ → ℕ → ℕ → RebindModel
-rebind_new env caller port owner new = record {
+abbrev pub rebind_from : Env → ℕ → ℕ → ℕ → ℕ → ℕ → RebindModel
+rebind_from env caller port owner new start = record {
   env = env;
   caller = caller;
   port = port;
   owner = owner;
   new_owner = new;
-  at = first_state env port new;
+  at = first_state env port new start;
 }
+
+-- or from the first one on
+abbrev pub rebind_new : Env → ℕ → ℕ → ℕ → ℕ → RebindModel
+rebind_new env caller port owner new = rebind_from env caller port owner new 0
 
 -- the state's one operation
 abbrev pub plan_at : Env → ℕ → RebindAt → Op

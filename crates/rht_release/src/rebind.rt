@@ -8,7 +8,7 @@ ghost use Rattle.rht_chain.specs.LockedWalk.{IsNodeOrNone};
 ghost use Rattle.rht_chain.specs.Relink.{relink_after};
 ghost use Rattle.rht_release.specs.Seek.{seek_after};
 ghost use Rattle.rht_release.specs.ListSearch.{search_after, IsSearchIn};
-ghost use Rattle.rht_release.specs.Rebind.{rebind_new, rebind_plan, rebind_after, after_at, filled, giving, sought, searched, swap_or_chain, unlocking, replacing, replaced, absent, closed, IsRebindAtIn, IsRebindEndIn};
+ghost use Rattle.rht_release.specs.Rebind.{rebind_from, rebind_new, rebind_plan, rebind_after, after_at, filled, giving, sought, searched, swap_or_chain, unlocking, replacing, replaced, absent, closed, IsRebindAtIn, IsRebindEndIn};
 
 use crate::found_port::FoundPort;
 use crate::list_search::ListSearch;
@@ -143,6 +143,15 @@ impl<M: Mix> Rebind<M> {
         requires { caller < 16 }
         ensures { result ≡ rebind_new env caller port owner new }
     {
+        Rebind::from(env, caller, port, owner, new, 0)
+    }
+
+    /// The same, where it looks for a free node from this word of the node map on.
+    #[inline(always)]
+    pub fn from(env: Env, caller: u32, port: Port, owner: u32, new: u32, start: u32) -> Rebind<M>
+        requires { caller < 16 }
+        ensures { result ≡ rebind_from env caller port owner new start }
+    {
         Rebind {
             env,
             caller,
@@ -150,7 +159,7 @@ impl<M: Mix> Rebind<M> {
             owner,
             new_owner: new,
             at: RebindAt::Filling {
-                new: NewNode::new(env.geometry, word_of(port), new),
+                new: NewNode::from(env.geometry, word_of(port), new, env.start_in(start)),
             },
             mix: PhantomData,
         }

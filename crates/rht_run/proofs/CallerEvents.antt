@@ -71,23 +71,23 @@ module _ (M : Type 0) (mix : ℕ → ℕ → ℕ → ℕ) (env : Env) where
     number_fits = omega (arith, shows.below, env.agrees.callers_same, env.settled.geometry.callers_within.1)
 
     pub begin_admitted : (call : Call) → MayBegin env held.number call held.local
-        → IsAdmittedEvent (Begin held.number call)
+        → IsAdmittedEvent (Begin held.number call 0)
     begin_admitted call can = (number_fits, can.admitted)
 
     -- one more event gives it a call that it may begin
     pub begin_shown : (call : Call) → MayBegin env held.number call held.local
-        → view_of (world_step mix world (Begin held.number call)) held.number ≡ view_in (held_then env (Some call) held)
+        → view_of (world_step mix world (Begin held.number call 0)) held.number ≡ view_in (held_then env (Some call) held)
     begin_shown call can =
         let c : ℕ = held.number in
         let idle : is_idle (local_of world.core c) ≡ true =
         ap (λ (x : View M). is_idle x.local) shows.shown ∙ can.idle in
         let same_env : world.core.env ≡ env = (runs-in M mix env events).same_env in
-        let begins : beginning_in world.core c call ≡ Some can.machine =
+        let begins : beginning_in world.core c call 0 ≡ Some can.machine =
         ap (λ b. cond b (machine_of world.core.env c (local_of world.core c).batch call) None)
         (both_true (lt-ltb c world.core.enrolled shows.enrolled) idle)
         ∙ ap (λ (e : Env). machine_of e c (local_of world.core c).batch call) same_env
         ∙ ap (λ (x : View M). machine_of env c x.local.batch call) shows.shown ∙ can.machine_is in
-        begin_self M mix world c call can.machine begins has_local
+        begin_self M mix world c call 0 can.machine begins has_local
         ∙ ap (view_begun call can.machine) shows.shown
         ∙ ap (λ (m : Option (Doing M)). view_with call m) (sym can.machine_is)
       where
@@ -191,12 +191,12 @@ module _ (M : Type 0) (mix : ℕ → ℕ → ℕ → ℕ) (env : Env) where
           let here : MayBegin env c call h.local =
           subst (λ (e : Env). MayBegin e c call h.local) mine.same_env can in
           let then : Held M = held_then v.env (Some call) h in
-          event_holds s r id v (begun (Some call) v) h then (Begin c call) s.words at one
+          event_holds s r id v (begun (Some call) v) h then (Begin c call 0) s.words at one
           (ap (map (held_then v.env (Some call))) one) refl refl refl
           (begin_admitted r.events h mine.shows call here) tt r.words
           (begin_shown r.events h mine.shows call here
           ∙ ap (λ (e : Env). view_in (held_then e (Some call) h)) (sym mine.same_env))
-          (begin_other M mix Wo c call)
+          (begin_other M mix Wo c call 0)
 
       -- ---- an operation
 

@@ -74,7 +74,7 @@ module _ {M : Type 0} where
   busy_then env c None local can = can
   busy_then env c (Some call) local can =
       subst (λ (m : Option (Doing M)). is_idle (begun_with local m) ≡ false) (sym can.machine_is)
-      (begun_busy M env c local.batch call can.machine can.machine_is)
+      (begun_busy M env c local.batch 0 call can.machine can.machine_is)
 
   module _ (mix : ℕ → ℕ → ℕ → ℕ) (t : Table M) (p : Pass M) (is : IsPassOf mix t p) where
     abbrev env : Env
@@ -140,7 +140,7 @@ module _ {M : Type 0} where
             (ap (λ (v : View M). plan_of v.local) shows.shown ∙ plan)
         go (Some call) can plan =
             let events = is.in_run.events in
-            let event : Event = Begin p.number call in
+            let event : Event = Begin p.number call 0 in
             let more = admitted_more M mix t.env events event admitted
             (begin_admitted M mix t.env events held shows call can) in
             (all_in_range M mix t.env (events ++ event ∷ []) more).plans p.number op

@@ -1,7 +1,7 @@
 -- The table that a spent view names. Nothing is held there.
 use Rattle.std.proofs.Common.{lit≤, refl}
 use Rattle.rht_words.specs.declared.env.Env.{Env}
-use Rattle.rht_words.specs.Settled.{IsSettled, plain_config}
+use Rattle.rht_words.specs.Settled.{IsSettled, plain_config, plain_ways}
 use Rattle.rht_words.specs.Sizes.{rounded_up, powers}
 
 -- its config is settled
@@ -27,6 +27,7 @@ abbrev pub plain_env : Env
 plain_env = record {
   geometry = record { nodes = 4096; pages = 256; callers = 1; within = plain_settled.geometry };
   config = plain_config;
+  ways = plain_ways;
   settled = plain_settled;
   agrees = record { nodes_same = refl; pages_same = refl; callers_same = refl };
 }

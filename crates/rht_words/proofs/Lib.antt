@@ -36,3 +36,5 @@ pub mod MachineRuns
 pub mod FreeBits
 -- how segments of chains are cut and joined, and what a store to one link does to them
 pub mod ChainLemmas
+-- from which word of the node map on a caller looks for a free node
+pub mod WordsBegun

@@ -1,16 +1,17 @@
 -- What follows from the definitions alone.
-use Rattle.std.specs.Prelude.{◌≡◌, ◌≢◌, ◌↔◌, ◌⊎◌, ℕ, ◌*◌, ◌/◌, ◌%◌, ◌^◌, ◌<◌, ◌≤◌, bit_and, bit_or, List, length, Some, None}
+use Rattle.std.specs.Prelude.{◌≡◌, ◌≢◌, ◌↔◌, ◌⊎◌, ℕ, true, ◌*◌, ◌/◌, ◌%◌, ◌^◌, ◌<◌, ◌≤◌, bit_and, bit_or, List, length, Some, None}
 use Rattle.std.specs.Int.{bit_at, bit_not, w64}
 use Rattle.rht_words.specs.Ports.{port_at, net_of, number_of, IsPort, word_of, port_of}
 use Rattle.rht_words.specs.Sizes.{rounded_up, rounded_down, first_size, IsSizeUpTo, IsLeastPower, IsGreatestPower}
 use Rattle.rht_words.specs.Limits.{max_limits}
-use Rattle.rht_words.specs.Settled.{IsSettled}
+use Rattle.rht_words.specs.Settled.{IsSettled, plain_ways}
 use Rattle.rht_words.specs.Operations.{op_place, word_after, applied}
-use Rattle.rht_words.specs.Places.{Address, Slot, NodeMap, PageMap, ShapeWord, IsAddress, place_of, address_at, words_in, word_at}
+use Rattle.rht_words.specs.Places.{Address, Slot, NodeMap, PageMap, ShapeWord, IsAddress, map_words, place_of, address_at, words_in, word_at}
 use Rattle.rht_words.specs.Links.{link_of, marker_of, node_of, unlocked, head_of, plain_of, future_of, slot_of, entry_of, page_of}
 use Rattle.rht_words.specs.Shapes.{packed, unpacked, IsPackable, size_of}
 use Rattle.rht_words.specs.Maps.{bit_of}
 use Rattle.rht_words.specs.Opening.{first_pages, first_shape, opening_word, opening_words}
+use Rattle.rht_words.specs.Ways.{start_in}
 use Rattle.rht_words.specs.declared.config.Config.{Config}
 use Rattle.rht_words.specs.declared.env.Env.{Env}
 use Rattle.rht_words.specs.declared.op.Op.{Op}
@@ -144,3 +145,13 @@ pub record ChangesOneBit (word bit : ℕ) : Type 0 where
 -- each mask of a bit changes one bit alone
 abbrev pub MasksChangeOneBit : Type 0
 MasksChangeOneBit = (word bit : ℕ) → word < 2 ^ 64 → bit < 64 → ChangesOneBit word bit
+
+-- a caller that is given this word of the node map looks for a free node from one on that there is: in the plain ways from the
+-- first, and where callers may begin at any from that which it is given
+pub record BeginsAtWord (env : Env) (start : ℕ) : Type 0 where
+  pub within : start_in env start < map_words env.geometry.nodes
+  pub plain : env.ways ≡ plain_ways → start_in env start ≡ 0
+  pub given : env.ways.spread ≡ true → start < map_words env.geometry.nodes → start_in env start ≡ start
+
+abbrev pub CallersBeginWithin : Type 0
+CallersBeginWithin = (env : Env) (start : ℕ) → BeginsAtWord env start

@@ -6,6 +6,8 @@ pub mod Sizes
 pub mod Limits
 -- which configs a table can be opened with, and the plain one
 pub mod Settled
+-- what comes of a table's ways
+pub mod Ways
 -- the seven operations on one word
 pub mod Operations
 -- where each thing stands in the list of words

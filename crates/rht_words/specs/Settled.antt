@@ -6,6 +6,7 @@ use Rattle.rht_words.specs.declared.config.Config.{Config}
 use Rattle.rht_words.specs.declared.config.Kind.TheVariants.{Single}
 use Rattle.rht_words.specs.declared.config.Hash.TheVariants.{Mix}
 use Rattle.rht_words.specs.declared.geometry.Geometry.{Geometry}
+use Rattle.rht_words.specs.declared.ways.Ways.{Ways}
 
 -- each number is within its limits (a hint of 0 says nothing), sizes are rounded and agree, and the first table fits the pages
 pub record IsSettled (config : Config) : Type 0 where
@@ -39,3 +40,7 @@ plain_config = record {
   hash = Mix;
   shrink = false;
 }
+
+-- in which ways a table that scripts and replays use does otherwise than they say: in none
+abbrev pub plain_ways : Ways
+plain_ways = record { spread = false }

@@ -1,6 +1,6 @@
 //! What follows from the definitions alone. Each function is empty, and its clause is the law.
 
-ghost use Rattle.rht_words.specs.Laws.{PortsComeBack, RoundsToNext, TablesStartWithin, PlacesNeverMeet, OperationsChangeOneWord, LinksTellApart, HeadsComeBack, EntriesComeBack, ShapesComeBack, WordsOpen, TablesOpenFlat, MapsOpenFree, MasksChangeOneBit};
+ghost use Rattle.rht_words.specs.Laws.{PortsComeBack, RoundsToNext, TablesStartWithin, PlacesNeverMeet, OperationsChangeOneWord, LinksTellApart, HeadsComeBack, EntriesComeBack, ShapesComeBack, WordsOpen, TablesOpenFlat, MapsOpenFree, MasksChangeOneBit, CallersBeginWithin};
 
 /// A port comes back from its key word, and from its net and its number; key words keep the order of ports.
 pub fn ports_come_back()
@@ -65,4 +65,10 @@ pub fn maps_open_free()
 /// To set or to clear a bit of a map's word changes no other bit.
 pub fn masks_change_one_bit()
     ensures { MasksChangeOneBit }
+{}
+
+/// A caller looks for a free node from a word of the map on that there is: in the plain ways from the
+/// first, whichever it is given.
+pub fn callers_begin_within()
+    ensures { CallersBeginWithin }
 {}

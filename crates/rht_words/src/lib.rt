@@ -20,6 +20,7 @@ pub mod places;
 mod port;
 mod shape;
 mod sizes;
+mod ways;
 mod words;
 
 pub use config::{Config, Hash, Kind};
@@ -37,4 +38,5 @@ pub use opening::opening_word;
 pub use port::{Port, owner_of, port_of, word_of};
 pub use shape::Shape;
 pub use sizes::{rounded_down, rounded_up, starting_size};
+pub use ways::Ways;
 pub use words::apply;

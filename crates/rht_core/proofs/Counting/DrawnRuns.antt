@@ -84,37 +84,37 @@ module _ (env : Env) (mix : ℕ → ℕ → ℕ → ℕ) where
             grown = none-grown has.ghost has.of_table;
           }
 
-      begin-drawn : (c : ℕ) (call : Call) (machine : Option (Doing L)) → IsAdmittedEvent (Begin c call)
-          → beginning_in w.core c call ≡ machine → Counted (world_step mix w (Begin c call))
-      begin-drawn c call None may is = nothing-drawn (world_step mix w (Begin c call)) (begin_none L mix w c call is)
-      begin-drawn c call (Some machine) may is =
-          let v = world_step mix w (Begin c call) in
-          let k = kept env mix L w.core has.ghost (Begin c call) has.all has.inv in
+      begin-drawn : (c : ℕ) (call : Call) (start : ℕ) (machine : Option (Doing L)) → IsAdmittedEvent (Begin c call start)
+          → beginning_in w.core c call start ≡ machine → Counted (world_step mix w (Begin c call start))
+      begin-drawn c call start None may is = nothing-drawn (world_step mix w (Begin c call start)) (begin_none L mix w c call start is)
+      begin-drawn c call start (Some machine) may is =
+          let v = world_step mix w (Begin c call start) in
+          let k = kept env mix L w.core has.ghost (Begin c call start) has.all has.inv in
           record {
             now =
                 record {
                   ghost = has.ghost;
                   inv = subst (Inv env mix L v.core) k.ghost_kept k.inv;
-                  all = event-all L mix env w (Begin c call) may has.all;
+                  all = event-all L mix env w (Begin c call start) may has.all;
                   of_table = has.of_table;
                   of_caller = has.of_caller;
                   drawn_are = subst (λ n. AreDrawn n (M NextSerial) has.ghost has.of_table has.of_caller) (same-counted v refl) has.drawn_are;
                   jobs = λ i. elim (cases_eq i c) [
                     | inl e ↦ subst (λ d. DrawnLeft M (has.of_caller d) (job_of (view_of v d).local.doing)) (sym e) self
                     | inr ne ↦ subst (λ (view : View L). DrawnLeft M (has.of_caller i) (job_of view.local.doing))
-                        (sym (begin_other L mix w c call i ne)) (has.jobs i)
+                        (sym (begin_other L mix w c call start i ne)) (has.jobs i)
                   ];
                 };
             grown = none-grown has.ghost has.of_table;
           }
         where
-          self : DrawnLeft M (has.of_caller c) (job_of (view_of (world_step mix w (Begin c call)) c).local.doing)
+          self : DrawnLeft M (has.of_caller c) (job_of (view_of (world_step mix w (Begin c call start)) c).local.doing)
           self =
-              let can = beginning-some w.core.env w.core.enrolled w.core.locals c call machine is in
+              let can = beginning-some w.core.env w.core.enrolled w.core.locals c call start machine is in
               let place = has_place L mix env w.core c has.all.stays can.below in
-              let first = first_job-machine env c (local_of w.core c).batch call machine (made_in L mix env w.core c call machine has.all.stays can) in
+              let first = first_job-machine env c (local_of w.core c).batch start call machine (made_in L mix env w.core c call start machine has.all.stays can) in
               subst (λ (view : View L). DrawnLeft M (has.of_caller c) (job_of view.local.doing))
-              (sym (begin_self L mix w c call machine is place))
+              (sym (begin_self L mix w c call start machine is place))
               (subst (DrawnLeft M (has.of_caller c)) (sym first.does)
               (begins-drawn M (has.of_caller c) env call first.job first.first))
 
@@ -179,7 +179,7 @@ module _ (env : Env) (mix : ℕ → ℕ → ℕ → ℕ) where
 
       event-drawn : (event : Event) → IsAdmittedEvent event → Counted (world_step mix w event)
       event-drawn Enroll may = enroll-drawn may
-      event-drawn (Begin c call) may = begin-drawn c call (beginning_in w.core c call) may refl
+      event-drawn (Begin c call start) may = begin-drawn c call start (beginning_in w.core c call start) may refl
       event-drawn (Step c) may = step-drawn c (planned_in w.core c) may refl
 
       -- ---- the same by the ghost that the event leaves
@@ -216,17 +216,17 @@ module _ (env : Env) (mix : ℕ → ℕ → ℕ → ℕ) where
             by = inl (sym (same-counted v (serial-of v k.inv.same_env ∙ same ∙ sym (serial-of w has.inv.same_env))));
           }
 
-      begin-draws : (c : ℕ) (call : Call) (machine : Option (Doing L)) → IsAdmittedEvent (Begin c call)
-          → beginning_in w.core c call ≡ machine → EventDraws (Begin c call) has.ghost
+      begin-draws : (c : ℕ) (call : Call) (start : ℕ) (machine : Option (Doing L)) → IsAdmittedEvent (Begin c call start)
+          → beginning_in w.core c call start ≡ machine → EventDraws (Begin c call start) has.ghost
       unfolding begin-drawn
-      begin-draws c call None may is = record {
+      begin-draws c call start None may is = record {
         count = drawn;
-        at = same-draws (world_step mix w (Begin c call)) (begin_none L mix w c call is);
+        at = same-draws (world_step mix w (Begin c call start)) (begin_none L mix w c call start is);
         by = inl refl;
       }
-      begin-draws c call (Some machine) may is =
-          let now = (begin-drawn c call (Some machine) may is).now in
-          let v = world_step mix w (Begin c call) in
+      begin-draws c call start (Some machine) may is =
+          let now = (begin-drawn c call start (Some machine) may is).now in
+          let v = world_step mix w (Begin c call start) in
           record {
             count = drawn + cond (next_serial w == next_serial v) 0 1;
             at = record { of_table = now.of_table; of_caller = now.of_caller; drawn_are = now.drawn_are; jobs = now.jobs };
@@ -262,9 +262,9 @@ module _ (env : Env) (mix : ℕ → ℕ → ℕ → ℕ) where
           → EventDraws event (kept env mix L w.core has.ghost event has.all has.inv).ghost
       event-draws Enroll may =
           subst (EventDraws Enroll) (sym (kept env mix L w.core has.ghost Enroll has.all has.inv).ghost_kept) (enroll-draws may)
-      event-draws (Begin c call) may =
-          subst (EventDraws (Begin c call)) (sym (kept env mix L w.core has.ghost (Begin c call) has.all has.inv).ghost_kept)
-          (begin-draws c call (beginning_in w.core c call) may refl)
+      event-draws (Begin c call start) may =
+          subst (EventDraws (Begin c call start)) (sym (kept env mix L w.core has.ghost (Begin c call start) has.all has.inv).ghost_kept)
+          (begin-draws c call start (beginning_in w.core c call start) may refl)
       event-draws (Step c) may = step-draws-at c (planned_in w.core c) may refl
 
     -- ---- all events

@@ -256,10 +256,10 @@ module _ (M : Type 0) (mix : ℕ → ℕ → ℕ → ℕ) (env : Env) (roomy : I
     first_walk-calm None = tt
     first_walk-calm (Some cursor) = tt
 
-    first-calm : (call : Call) (batch : Option BatchModel) → IfSome (first_job env batch call) (CalmJob env)
-    first-calm (Walk from limit) batch = first_walk-calm from
-    first-calm Tidy batch = first_tidy-so (CalmJob env) batch (λ own. tt)
-    first-calm _ batch = tt
+    first-calm : (call : Call) (batch : Option BatchModel) (start : ℕ) → IfSome (first_job env batch call start) (CalmJob env)
+    first-calm (Walk from limit) batch start = first_walk-calm from
+    first-calm Tidy batch start = first_tidy-so (CalmJob env) batch (λ own. tt)
+    first-calm _ batch start = tt
 
     calls-calm : IsAdmitted events
         → let r : Traced M = traced_of mix env events in IsKeeping M mix env Now Ended (view_of r.world c) (r.traces c)
@@ -308,7 +308,7 @@ module _ (M : Type 0) (mix : ℕ → ℕ → ℕ → ℕ) (env : Env) (roomy : I
     event-unmade Enroll =
         no_table_kept env w.core.words (applied w.core.words (enrolling w.core.env))
         (λ place low apart other. applied-other w.core.words (enrolling w.core.env) place other) unmade-now
-    event-unmade (Begin c call) = unmade-now
+    event-unmade (Begin c call start) = unmade-now
     event-unmade (Step c) = step-unmade c (planned_in w.core c) refl
 
   -- ---- all events

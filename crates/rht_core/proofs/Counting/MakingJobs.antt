@@ -54,9 +54,9 @@ module _ (Full : ℕ → Type 0) (Makes : MakeModel → Type 0) (Has : ℕ → �
 
   -- ---- the first job of a call
 
-  first-makes : (env : Env) (call : Call) (batch : Option BatchModel) → IfSome (first_job env batch call) JobMakes
-  first-makes env Tidy batch = first_tidy-so JobMakes batch (λ own. tt)
-  first-makes env _ batch = tt
+  first-makes : (env : Env) (call : Call) (batch : Option BatchModel) (start : ℕ) → IfSome (first_job env batch call start) JobMakes
+  first-makes env Tidy batch start = first_tidy-so JobMakes batch (λ own. tt)
+  first-makes env _ batch start = tt
 
   pub begins-making : (env : Env) (call : Call) (job : Job) → IsFirstJob env call job → JobMakes job
   begins-making env call job is = first-of JobMakes env call job (first-makes env call) is

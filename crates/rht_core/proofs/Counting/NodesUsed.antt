@@ -258,7 +258,7 @@ module _ (M : Type 0) (mix : ℕ → ℕ → ℕ → ℕ) (env : Env) (events : 
       let apart : op_place (enrolling (core_at i).env) ≢ map_place g n =
       λ same. absurd (omega (arith, same)) in
       before (sym (ap (λ w. bit_at w (n % 64)) (other_word (core_at i).words (enrolling (core_at i).env) n apart)) ∙ clear)
-  by_event i n (Begin c call) l is before clear = before clear
+  by_event i n (Begin c call start) l is before clear = before clear
   by_event i n (Step c) l is before clear = by_op i n c (planned_in (core_at i) c) l is refl before clear
 
   -- by induction over the events

@@ -119,9 +119,9 @@ module _ (env : Env) where
     other-one (works state) other = absurd (cc)
     other-one _ other = tt
 
-    first-one : (call : Call) (batch : Option BatchModel) → IfSome (first_job env batch call) OneJob
-    first-one Tidy batch = first_tidy-so OneJob batch (λ own. tt)
-    first-one _ batch = tt
+    first-one : (call : Call) (batch : Option BatchModel) (start : ℕ) → IfSome (first_job env batch call start) OneJob
+    first-one Tidy batch start = first_tidy-so OneJob batch (λ own. tt)
+    first-one _ batch start = tt
 
     module _ (first : 16 ≤ first_size env.config) (mix : ℕ → ℕ → ℕ → ℕ) (words_at : ℕ → List ℕ)
         (few : (i : ℕ) → HasFew env (words_at i)) (did : Did) where

@@ -23,7 +23,7 @@ use Rattle.rht_callers.specs.declared.local.Doing.{Doing}
 use Rattle.rht_callers.specs.declared.local.Local.{Local}
 use Rattle.rht_core.specs.Counts.{takes_out, returned_by}
 use Rattle.rht_core.specs.Jobs.{Job, call_of, job_after, job_of, told, held_of, held_next}
-use Rattle.rht_callers.specs.Locals.{is_idle, machine_of, local_after, ending_of}
+use Rattle.rht_callers.specs.Locals.{is_idle, machine_from, local_after, ending_of}
 use Rattle.rht_core.specs.Runs.{World, View, view_of, local_of, beginning_in, planned_in, book_begun, book_after, finished_with, world_step, run_of, opening, IsAdmitted, IsAdmittedEvent}
 use Rattle.rht_core.specs.Laws.{view_begun, view_stepped}
 use Rattle.rht_ghost.proofs.Theory.Ghosts.{Ghost, is_taken_by, Free}
@@ -75,11 +75,11 @@ module _ (env : Env) (mix : ℕ → ℕ → ℕ → ℕ) (L : Type 0) where
       go None none says = says.1
       go (Some job) none says = absurd (cc)
 
-  begun-says : (c : ℕ) (call : Call) (machine : Doing L) (view : View L) (many : ℕ)
-      → machine_of env c view.local.batch call ≡ Some machine
+  begun-says : (c : ℕ) (call : Call) (start : ℕ) (machine : Doing L) (view : View L) (many : ℕ)
+      → machine_from env c view.local.batch call start ≡ Some machine
       → is_idle view.local ≡ true → ViewSays view many → ViewSays (view_begun call machine view) many
-  begun-says c call machine view many is idle says =
-      let first = first_job-machine env c view.local.batch call machine is in
+  begun-says c call start machine view many is idle says =
+      let first = first_job-machine env c view.local.batch start call machine is in
       let so_far = idle-says view many idle says in
       let none : outs_of (held_of first.job).answer ≡ 0 = ap outs_of
       (first_unknown env call first.job first.first) in
@@ -158,27 +158,27 @@ module _ (env : Env) (mix : ℕ → ℕ → ℕ → ℕ) (L : Type 0) where
   event-says w Enroll may has k =
       let after = kept env mix L w.core has.ghost Enroll has.all has.inv in
       subst (ViewSays (view_of w k)) (sym (after.outs_kept k)) (has.says k)
-  event-says w (Begin c call) may has k =
-      let after = kept env mix L w.core has.ghost (Begin c call) has.all has.inv in
-      subst (ViewSays (view_of (world_step mix w (Begin c call)) k)) (sym (after.outs_kept k))
+  event-says w (Begin c call start) may has k =
+      let after = kept env mix L w.core has.ghost (Begin c call start) has.all has.inv in
+      subst (ViewSays (view_of (world_step mix w (Begin c call start)) k)) (sym (after.outs_kept k))
       (elim (cases_eq k c) [
-        | inl e ↦ subst (λ d. ViewSays (view_of (world_step mix w (Begin c call)) d)
-            (outs env mix has.ghost d)) (sym e) (go (beginning_in w.core c call) refl)
+        | inl e ↦ subst (λ d. ViewSays (view_of (world_step mix w (Begin c call start)) d)
+            (outs env mix has.ghost d)) (sym e) (go (beginning_in w.core c call start) refl)
         | inr ne ↦ subst (λ (v : View L). ViewSays v (outs env mix has.ghost k))
-            (sym (begin_other L mix w c call k ne)) (has.says k)
+            (sym (begin_other L mix w c call start k ne)) (has.says k)
       ])
     where
-      go : (machine : Option (Doing L)) → beginning_in w.core c call ≡ machine
-          → ViewSays (view_of (world_step mix w (Begin c call)) c) (outs env mix has.ghost c)
+      go : (machine : Option (Doing L)) → beginning_in w.core c call start ≡ machine
+          → ViewSays (view_of (world_step mix w (Begin c call start)) c) (outs env mix has.ghost c)
       go None is = subst (λ (v : World L). ViewSays (view_of v c) (outs env mix has.ghost c))
-          (sym (begin_none L mix w c call is)) (has.says c)
+          (sym (begin_none L mix w c call start is)) (has.says c)
       go (Some machine) is =
-          let can = beginning-some w.core.env w.core.enrolled w.core.locals c call machine is in
+          let can = beginning-some w.core.env w.core.enrolled w.core.locals c call start machine is in
           let place = has_place L mix env w.core c has.all.stays can.below in
           subst (λ (v : View L). ViewSays v (outs env mix has.ghost c))
-          (sym (begin_self L mix w c call machine is place))
-          (begun-says c call machine (view_of w c) (outs env mix has.ghost c)
-          (made_in L mix env w.core c call machine has.all.stays can)
+          (sym (begin_self L mix w c call start machine is place))
+          (begun-says c call start machine (view_of w c) (outs env mix has.ghost c)
+          (made_in L mix env w.core c call start machine has.all.stays can)
           can.idle (has.says c))
   event-says w (events.Step c) may has k =
       let after = kept env mix L w.core has.ghost (events.Step c) has.all has.inv in

@@ -18,7 +18,7 @@ use Rattle.rht_callers.specs.PortCounts.{count_after}
 use Rattle.rht_callers.specs.declared.local.Local.{Local}
 use Rattle.rht_callers.specs.declared.local.Doing.{Doing}
 use Rattle.rht_callers.specs.declared.local.Doing.TheVariants.{Idle, Finding, Binding, Releasing, Rebinding, Listing, Working, Counting, Tidying, Walking}
-use Rattle.rht_callers.specs.Locals.{does_nothing, is_idle, machine_of, doing_plan, plan_of, doing_next, doing_after, local_after, without_node}
+use Rattle.rht_callers.specs.Locals.{does_nothing, is_idle, machine_from, doing_plan, plan_of, doing_next, doing_after, local_after, without_node}
 use Rattle.rht_grace.specs.Tidy.{tidy_after}
 use Rattle.rht_walk.specs.Walk.{walk_after}
 use Rattle.rht_callers.proofs.CallBeginnings.{begins_so}
@@ -33,10 +33,10 @@ module _ (M : Type 0) where
   busy_plans local busy none = doing_plans local.doing busy none
 
   -- who begins is in a call
-  pub begun_busy : (env : Env) (c : ℕ) (batch : Option BatchModel) (call : Call) (machine : Doing M) → machine_of env c batch call ≡ Some machine
+  pub begun_busy : (env : Env) (c : ℕ) (batch : Option BatchModel) (start : ℕ) (call : Call) (machine : Doing M) → machine_from env c batch call start ≡ Some machine
       → does_nothing machine ≡ false
-  begun_busy env c batch =
-      begins_so M env c batch (λ call machine. does_nothing machine ≡ false) (λ port. refl) (λ port owner once. refl)
+  begun_busy env c batch start =
+      begins_so M env c batch start (λ call machine. does_nothing machine ≡ false) (λ port. refl) (λ port owner once. refl)
       (λ port. refl) (λ port owner. refl) (λ port owner new. refl) refl refl (λ own has. refl) (λ from limit. refl)
 
   -- it goes on without a reply, or has one and is idle

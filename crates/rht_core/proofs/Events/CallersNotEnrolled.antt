@@ -32,14 +32,14 @@ module _ (M : Type 0) (mix : ℕ → ℕ → ℕ → ℕ) (env : Env) where
   abbrev OthersFresh : World M → Type 0
   OthersFresh w = (c : ℕ) → w.core.enrolled ≤ c → IsFresh w c
 
-  begins-fresh : (w : World M) (c : ℕ) (call : Call) (machine : Option (Doing M))
-      → beginning_in w.core c call ≡ machine → OthersFresh w
-      → (k : ℕ) → w.core.enrolled ≤ k → IsFresh (world_step mix w (Begin c call)) k
-  begins-fresh w c call None is fresh k past =
-      ap (λ (v : World M). view_of v k) (begin_none M mix w c call is) ∙ fresh k past
-  begins-fresh w c call (Some machine) is fresh k past =
-      let can = beginning-some w.core.env w.core.enrolled w.core.locals c call machine is in
-      begin_other M mix w c call k (λ same. omega (arith, can.below)) ∙ fresh k past
+  begins-fresh : (w : World M) (c : ℕ) (call : Call) (start : ℕ) (machine : Option (Doing M))
+      → beginning_in w.core c call start ≡ machine → OthersFresh w
+      → (k : ℕ) → w.core.enrolled ≤ k → IsFresh (world_step mix w (Begin c call start)) k
+  begins-fresh w c call start None is fresh k past =
+      ap (λ (v : World M). view_of v k) (begin_none M mix w c call start is) ∙ fresh k past
+  begins-fresh w c call start (Some machine) is fresh k past =
+      let can = beginning-some w.core.env w.core.enrolled w.core.locals c call start machine is in
+      begin_other M mix w c call start k (λ same. omega (arith, can.below)) ∙ fresh k past
 
   steps-fresh : (w : World M) (c : ℕ) (op : Option Op) → planned_in w.core c ≡ op
       → OthersFresh w
@@ -55,8 +55,8 @@ module _ (M : Type 0) (mix : ℕ → ℕ → ℕ → ℕ) (env : Env) where
       let rises = enrolled_after-rises w.core.env w.core.enrolled
       (old_of w.core.words (enrolling w.core.env)) in
       fresh k (omega (arith, rises, past))
-  event-fresh w (Begin c call) fresh k past =
-      begins-fresh w c call (beginning_in w.core c call) refl fresh k past
+  event-fresh w (Begin c call start) fresh k past =
+      begins-fresh w c call start (beginning_in w.core c call start) refl fresh k past
   event-fresh w (Step c) fresh k past =
       let count = step-count M mix w.core.env w.core c (planned_in w.core c) in
       steps-fresh w c (planned_in w.core c) refl fresh k (omega (arith, count, past))

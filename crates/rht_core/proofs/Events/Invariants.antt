@@ -63,7 +63,7 @@ module _ (env : Env) (mix : ℕ → ℕ → ℕ → ℕ) where
 
     abbrev pub OutsKept : Core L → Ghost → Ghost → Event → Type 0
     OutsKept core G G' Enroll = (k : ℕ) → outs env mix G' k ≡ outs env mix G k
-    OutsKept core G G' (Begin c call) = (k : ℕ) → outs env mix G' k ≡ outs env mix G k
+    OutsKept core G G' (Begin c call start) = (k : ℕ) → outs env mix G' k ≡ outs env mix G k
     OutsKept core G G' (events.Step c) = StepOuts core G G' c
 
     -- the ghost stays, but for the move of a caller that makes an operation
@@ -74,7 +74,7 @@ module _ (env : Env) (mix : ℕ → ℕ → ℕ → ℕ) where
 
     abbrev pub GhostKept : Core L → Ghost → Ghost → Event → Type 0
     GhostKept core G G' Enroll = G' ≡ G
-    GhostKept core G G' (Begin c call) = G' ≡ G
+    GhostKept core G G' (Begin c call start) = G' ≡ G
     GhostKept core G G' (events.Step c) = StepMoves core G G' c
 
     -- the invariant again, with some ghost
@@ -84,21 +84,21 @@ module _ (env : Env) (mix : ℕ → ℕ → ℕ → ℕ) where
       pub outs_kept : OutsKept core G ghost event
       pub ghost_kept : GhostKept core G ghost event
 
-    begin_kept : (core : Core L) (G : Ghost) (c : ℕ) (call : Call) (machine : Option (Doing L))
-        → AllIn L mix env core → Inv core G → beginning_in core c call ≡ machine → Kept core G (Begin c call)
-    begin_kept core G c call None sound inv is = record {
+    begin_kept : (core : Core L) (G : Ghost) (c : ℕ) (call : Call) (start : ℕ) (machine : Option (Doing L))
+        → AllIn L mix env core → Inv core G → beginning_in core c call start ≡ machine → Kept core G (Begin c call start)
+    begin_kept core G c call start None sound inv is = record {
       ghost = G;
       inv = rw is (record { same_env = inv.same_env; whole = inv.whole; each = inv.each; batches = inv.batches });
       outs_kept = λ k. refl;
       ghost_kept = refl;
     }
-    begin_kept core G c call (Some machine) sound inv is =
-        let can = beginning-some core.env core.enrolled core.locals c call machine is in
+    begin_kept core G c call start (Some machine) sound inv is =
+        let can = beginning-some core.env core.enrolled core.locals c call start machine is in
         let place = has_place L mix env core c sound.stays can.below in
         let M = mem env mix core.words in
         let nothing = idle_knows env mix L c (local_of core c).doing M G can.idle (inv.each c) in
         let owns = idle-owns env mix L G c (local_of core c) can.idle (inv.batches c) in
-        let knows = begun_knows env mix L c (local_of core c).batch call machine M G (made_in L mix env core c call machine sound.stays can) nothing owns in
+        let knows = begun_knows env mix L c (local_of core c).batch start call machine M G (made_in L mix env core c call start machine sound.stays can) nothing owns in
         record {
           ghost = G;
           inv = rw is (record {
@@ -107,7 +107,7 @@ module _ (env : Env) (mix : ℕ → ℕ → ℕ → ℕ) where
             each = each_set (λ k local. Knows env mix k (job_of local.doing) M G) (fresh core.env) core.locals c
                 (begin_with (local_of core c) machine) place knows inv.each;
             batches = each_set (BatchRight env mix L G) (fresh core.env) core.locals c (begin_with (local_of core c) machine) place
-                (begun-right env mix L core G c call machine sound is (inv.batches c)) inv.batches;
+                (begun-right env mix L core G c call start machine sound is (inv.batches c)) inv.batches;
           });
           outs_kept = λ k. refl;
           ghost_kept = refl;
@@ -220,5 +220,5 @@ module _ (env : Env) (mix : ℕ → ℕ → ℕ → ℕ) where
     pub kept : (core : Core L) (G : Ghost) (event : Event) → AllIn L mix env core → Inv core G
         → Kept core G event
     kept core G Enroll sound inv = enroll_kept core G sound inv
-    kept core G (Begin c call) sound inv = begin_kept core G c call (beginning_in core c call) sound inv refl
+    kept core G (Begin c call start) sound inv = begin_kept core G c call start (beginning_in core c call start) sound inv refl
     kept core G (events.Step c) sound inv = step_kept core G c (planned_in core c) sound inv refl

@@ -31,7 +31,7 @@ use Rattle.rht_grace.specs.Tidy.{TidyModel}
 use Rattle.rht_grace.specs.declared.tidy.TidyAt.{TidyAt}
 use Rattle.rht_callers.specs.declared.local.Doing.{Doing}
 use Rattle.rht_callers.specs.declared.local.Doing.TheVariants.{Idle, Finding, Binding, Releasing, Rebinding, Listing, Working, Counting, Tidying, Walking}
-use Rattle.rht_callers.specs.Locals.{fresh, does_nothing, machine_of, doing_plan, doing_after, owners_after, room_given, pairs_after, pairs_given, local_after, ending_of, doing_next, without_node, IsDoingOf, IsLocalOf}
+use Rattle.rht_callers.specs.Locals.{fresh, does_nothing, machine_from, doing_plan, doing_after, owners_after, room_given, pairs_after, pairs_given, local_after, ending_of, doing_next, without_node, IsDoingOf, IsLocalOf}
 use Rattle.rht_core.specs.Laws.{IsDoingIn}
 use Rattle.rht_core.specs.Jobs.{listing_ending, node_ending, Job, finds, binds, releases, rebinds, lists, works, tidies, tidying, tidied, walks, walk_ending, walk_gone, counts, call_of, first_job, first_tidy, job_plan, job_after, job_next, job_of, told, held_of, IsFirstJob}
 use Rattle.rht_release.specs.Release as release
@@ -131,9 +131,9 @@ first-so Now None job kept is = absurd (cc)
 first-so Now (Some first) job kept is = let same : first ≡ job = cc in subst Now same kept
 
 -- what is so of it whatever batch its caller has
-pub first-of : (Now : Job → Type 0) (env : Env) (call : Call) (job : Job) → ((batch : Option BatchModel) → IfSome (first_job env batch call) Now)
+pub first-of : (Now : Job → Type 0) (env : Env) (call : Call) (job : Job) → ((batch : Option BatchModel) (start : ℕ) → IfSome (first_job env batch call start) Now)
     → IsFirstJob env call job → Now job
-first-of Now env call job each (batch, is) = first-so Now (first_job env batch call) job (each batch) is
+first-of Now env call job each (batch, start, is) = first-so Now (first_job env batch call start) job (each batch start) is
 
 -- a tidying begins with its caller's batch
 pub first_tidy-so : (Now : Job → Type 0) (batch : Option BatchModel) → ((own : BatchModel) → Now (tidying (tidy.begun own)))
@@ -145,9 +145,9 @@ first_tidy-so Now (Some own) so = so own
 abbrev HoldsNothing : Job → Type 0
 HoldsNothing job = held_of job ≡ held.holds_nothing
 
-first_job-holds : (env : Env) (call : Call) (batch : Option BatchModel) → IfSome (first_job env batch call) HoldsNothing
-first_job-holds env Tidy batch = first_tidy-so HoldsNothing batch (λ own. refl)
-first_job-holds env _ batch = refl
+first_job-holds : (env : Env) (call : Call) (batch : Option BatchModel) (start : ℕ) → IfSome (first_job env batch call start) HoldsNothing
+first_job-holds env Tidy batch start = first_tidy-so HoldsNothing batch (λ own. refl)
+first_job-holds env _ batch start = refl
 
 pub first_holds : (env : Env) (call : Call) (job : Job) → IsFirstJob env call job
     → held_of job ≡ held.holds_nothing
@@ -178,19 +178,19 @@ module _ {M : Type 0} where
     pub does : job_of doing ≡ Some job
     pub asked : call_of job ≡ call
 
-  pub first_job-machine : (env : Env) (c : ℕ) (batch : Option BatchModel) (call : Call) (doing : Doing M)
-      → machine_of env c batch call ≡ Some doing
+  pub first_job-machine : (env : Env) (c : ℕ) (batch : Option BatchModel) (start : ℕ) (call : Call) (doing : Doing M)
+      → machine_from env c batch call start ≡ Some doing
       → IsFirst env call doing
-  first_job-machine env c batch =
-      begins_so M env c batch (IsFirst env) (λ port. record { job = _; first = (batch, refl); does = refl; asked = refl })
-      (λ port owner once. record { job = _; first = (batch, refl); does = refl; asked = refl })
-      (λ port. record { job = _; first = (batch, refl); does = refl; asked = refl })
-      (λ port owner. record { job = _; first = (batch, refl); does = refl; asked = refl })
-      (λ port owner new. record { job = _; first = (batch, refl); does = refl; asked = refl })
-      (record { job = _; first = (batch, refl); does = refl; asked = refl })
-      (record { job = _; first = (batch, refl); does = refl; asked = refl })
-      (λ own has. record { job = _; first = (batch, ap first_tidy has); does = refl; asked = refl })
-      (λ from limit. record { job = _; first = (batch, refl); does = refl; asked = refl })
+  first_job-machine env c batch start =
+      begins_so M env c batch start (IsFirst env) (λ port. record { job = _; first = (batch, start, refl); does = refl; asked = refl })
+      (λ port owner once. record { job = _; first = (batch, start, refl); does = refl; asked = refl })
+      (λ port. record { job = _; first = (batch, start, refl); does = refl; asked = refl })
+      (λ port owner. record { job = _; first = (batch, start, refl); does = refl; asked = refl })
+      (λ port owner new. record { job = _; first = (batch, start, refl); does = refl; asked = refl })
+      (record { job = _; first = (batch, start, refl); does = refl; asked = refl })
+      (record { job = _; first = (batch, start, refl); does = refl; asked = refl })
+      (λ own has. record { job = _; first = (batch, start, ap first_tidy has); does = refl; asked = refl })
+      (λ from limit. record { job = _; first = (batch, start, refl); does = refl; asked = refl })
 
   -- ---- an operation
 

@@ -26,13 +26,13 @@ module _ (L : Type 0) (mix : ℕ → ℕ → ℕ → ℕ) (env : Env) (w : World
       (steps : (c : ℕ) (op : Op) → planned_in w.core c ≡ Some op
       → So (view_stepped mix (old_of w.core.words op) (view_of w c)))
     where
-      begun : (c : ℕ) (call : Call) (machine : Option (Doing L)) → beginning_in w.core c call ≡ machine
-          → So (view_of (world_step mix w (Begin c call)) c)
-      begun c call None is = subst (λ (v : World L). So (view_of v c)) (sym (begin_none L mix w c call is)) (was c)
-      begun c call (Some machine) is =
-          let can = beginning-some w.core.env w.core.enrolled w.core.locals c call machine is in
-          subst So (sym (begin_self L mix w c call machine is (has_place L mix env w.core c stays can.below)))
-          (begins c call machine (first_job-machine env c (local_of w.core c).batch call machine (made_in L mix env w.core c call machine stays can)))
+      begun : (c : ℕ) (call : Call) (start : ℕ) (machine : Option (Doing L)) → beginning_in w.core c call start ≡ machine
+          → So (view_of (world_step mix w (Begin c call start)) c)
+      begun c call start None is = subst (λ (v : World L). So (view_of v c)) (sym (begin_none L mix w c call start is)) (was c)
+      begun c call start (Some machine) is =
+          let can = beginning-some w.core.env w.core.enrolled w.core.locals c call start machine is in
+          subst So (sym (begin_self L mix w c call start machine is (has_place L mix env w.core c stays can.below)))
+          (begins c call machine (first_job-machine env c (local_of w.core c).batch start call machine (made_in L mix env w.core c call start machine stays can)))
 
       stepped : (c : ℕ) (plan : Option Op) → planned_in w.core c ≡ plan → So (view_of (world_step mix w (Step c)) c)
       stepped c None is = subst (λ (v : World L). So (view_of v c)) (sym (step_none L mix w c is)) (was c)
@@ -42,9 +42,9 @@ module _ (L : Type 0) (mix : ℕ → ℕ → ℕ → ℕ) (env : Env) (w : World
 
       pub views_kept : (event : Event) (k : ℕ) → So (view_of (world_step mix w event) k)
       views_kept Enroll k = was k
-      views_kept (Begin c call) k = elim (cases_eq k c) [
-        | inl e ↦ subst (λ d. So (view_of (world_step mix w (Begin c call)) d)) (sym e) (begun c call (beginning_in w.core c call) refl)
-        | inr ne ↦ subst So (sym (begin_other L mix w c call k ne)) (was k)
+      views_kept (Begin c call start) k = elim (cases_eq k c) [
+        | inl e ↦ subst (λ d. So (view_of (world_step mix w (Begin c call start)) d)) (sym e) (begun c call start (beginning_in w.core c call start) refl)
+        | inr ne ↦ subst So (sym (begin_other L mix w c call start k ne)) (was k)
       ]
       views_kept (Step c) k = elim (cases_eq k c) [
         | inl e ↦ subst (λ d. So (view_of (world_step mix w (Step c)) d)) (sym e) (stepped c (planned_in w.core c) refl)
@@ -56,7 +56,7 @@ module _ (L : Type 0) (mix : ℕ → ℕ → ℕ → ℕ) (env : Env) (w : World
     where
       pub ghosts_kept : (event : Event) → So (kept env mix L w.core G event all inv).ghost
       ghosts_kept Enroll = subst So (sym (kept env mix L w.core G Enroll all inv).ghost_kept) was
-      ghosts_kept (Begin c call) = subst So (sym (kept env mix L w.core G (Begin c call) all inv).ghost_kept) was
+      ghosts_kept (Begin c call start) = subst So (sym (kept env mix L w.core G (Begin c call start) all inv).ghost_kept) was
       ghosts_kept (Step c) = go (planned_in w.core c) refl
         where
           go : (plan : Option Op) → planned_in w.core c ≡ plan → So (kept env mix L w.core G (Step c) all inv).ghost

@@ -24,7 +24,7 @@ use Rattle.rht_callers.specs.declared.local.Local.{Local}
 use Rattle.rht_callers.specs.declared.local.Doing.{Doing}
 use Rattle.rht_callers.specs.declared.local.Doing.TheVariants.{Tidying}
 use Rattle.rht_callers.specs.Batches.{nodes_in, nodes_held, IsBatchIn, IsSoundBatch, CanPut, with_out, out_of, batch_room, batch_beside, batch_given, batch_after}
-use Rattle.rht_callers.specs.Locals.{does_nothing, is_idle, machine_of, begin_with, doing_next, doing_after, local_after, IsDoingOf}
+use Rattle.rht_callers.specs.Locals.{does_nothing, is_idle, machine_from, begin_with, doing_next, doing_after, local_after, IsDoingOf}
 use Rattle.rht_callers.proofs.CallBeginnings.{begins_so}
 use Rattle.rht_callers.proofs.BatchesOfCallers.{idle-batch, begun-batch, begun-sound, batch_after-out, batch_after-sound, IsSoundBatch-out}
 use Rattle.rht_core.specs.Jobs.{Job, tidies, tidying, tidied, call_of, job_of, job_next, job_after, told, held_of, held_next}
@@ -150,29 +150,29 @@ module _ (env : Env) (mix : ℕ → ℕ → ℕ → ℕ) (L : Type 0) where
       }
 
   -- and so has who has begun, or its tidying
-  begun-owns : (G : Ghost) (c : ℕ) (batch : Option BatchModel) (call : Call) (machine : Doing L) → machine_of env c batch call ≡ Some machine
+  begun-owns : (G : Ghost) (c : ℕ) (batch : Option BatchModel) (start : ℕ) (call : Call) (machine : Doing L) → machine_from env c batch call start ≡ Some machine
       → OwnsNodes env mix c (nodes_in batch) G → OwnsNodes env mix c (nodes_held machine (batch_beside machine batch)) G
-  begun-owns G c batch =
-      begins_so L env c batch
+  begun-owns G c batch start =
+      begins_so L env c batch start
       (λ call machine. OwnsNodes env mix c (nodes_in batch) G → OwnsNodes env mix c (nodes_held machine (batch_beside machine batch)) G)
       (λ port is. is) (λ port owner once is. is) (λ port is. is) (λ port owner is. is) (λ port owner new is. is)
       (λ is. is) (λ is. is)
       (λ own has is. begun_owns env mix L c own G (subst (λ b. OwnsNodes env mix c (nodes_in b) G) has is)) (λ from limit is. is)
 
-  pub begun-right : (core : Core L) (G : Ghost) (c : ℕ) (call : Call) (machine : Doing L) → AllIn L mix env core
-      → beginning_in core c call ≡ Some machine → BatchRight G c (local_of core c)
+  pub begun-right : (core : Core L) (G : Ghost) (c : ℕ) (call : Call) (start : ℕ) (machine : Doing L) → AllIn L mix env core
+      → beginning_in core c call start ≡ Some machine → BatchRight G c (local_of core c)
       → BatchRight G c (begin_with (local_of core c) machine)
-  begun-right core G c call machine all is right =
+  begun-right core G c call start machine all is right =
       let local = local_of core c in
-      let can = beginning-some core.env core.enrolled core.locals c call machine is in
-      let made = made_in L mix env core c call machine all.stays can in
-      let first = first_job-machine env c local.batch call machine made in
-      let owns = begun-owns G c local.batch call machine made (idle-owns G c local can.idle right) in
+      let can = beginning-some core.env core.enrolled core.locals c call start machine is in
+      let made = made_in L mix env core c call start machine all.stays can in
+      let first = first_job-machine env c local.batch start call machine made in
+      let owns = begun-owns G c local.batch start call machine made (idle-owns G c local can.idle right) in
       record {
         out = owns.out;
         sound =
             let sound = idle-batch L IsSoundBatch local can.idle right.sound in
-            begun-batch L IsSoundBatch env c local.batch call machine made sound
+            begun-batch L IsSoundBatch env c local.batch start call machine made sound
             (λ own has. begun-sound own (subst IsSoundBatch has sound));
         apart = λ n taken.
             let none : taken_with (job_of machine) ≡ None =

@@ -53,11 +53,12 @@ use Rattle.rht_grace.specs.declared.tidy.TidyAt.{TidyAt}
 use Rattle.rht_words.specs.declared.machine.Next.{Next}
 use Rattle.rht_words.specs.declared.machine.Next.TheVariants.{Go, Done}
 use Rattle.rht_model.specs.declared.history.Reply.{Reply}
+use Rattle.rht_words.proofs.WordsBegun.{start_in-within}
 use Rattle.rht_callers.specs.PortCounts.{count_plan_in}
 use Rattle.rht_callers.specs.declared.local.Local.{Local}
 use Rattle.rht_callers.specs.declared.local.Doing.{Doing}
 use Rattle.rht_callers.specs.declared.local.Doing.TheVariants.{Idle, Finding, Binding, Releasing, Rebinding, Listing, Working, Counting, Tidying, Walking}
-use Rattle.rht_callers.specs.Locals.{fresh, machine_of, begin_with, plan_of, doing_next, doing_after, local_after, owners_room, without_node}
+use Rattle.rht_callers.specs.Locals.{fresh, machine_from, begin_with, plan_of, doing_next, doing_after, local_after, owners_room, without_node}
 use Rattle.rht_core.specs.Runs.{Core, World, local_of, beginning_in, with_machine, planned_in, with_step, enrolling, world_step, run_of, opening, IsAdmitted, IsAdmittedCall, IsAdmittedEvent}
 use Rattle.rht_core.specs.Laws.{IsDoingIn, IsLocalIn, WordsFit, IsOfCaller, IsEnrolledKept, Enrolled}
 use Rattle.rht_core.specs.Jobs.{Job, finds, binds, lists, releases, rebinds, works, tidies, walks, counts, job_plan, job_of}
@@ -99,10 +100,6 @@ opening_word-fits env _ = omega arith
 planned_count : (env : Env) → IsPlannedIn env.geometry (count_plan_in env)
 planned_count env = record { within = omega arith; apart = λ same. absurd (omega arith); fits = omega arith }
 
--- a map of nodes has a first word
-first_map_word : (g : Geometry) → 0 < map_words g.nodes
-first_map_word g = let within = g.within.nodes_within in omega arith
-
 -- the operation of a job in range is on a word
 pub planned_job : (env : Env) (mix : ℕ → ℕ → ℕ → ℕ) (c : ℕ) (job : Job) → c < 16 → JobIn env mix c job
     → IsPlannedIn env.geometry (job_plan env c job)
@@ -118,12 +115,12 @@ planned_job env mix c counts few within = planned_count env
 
 module _ (M : Type 0) where
   -- a caller that begins an admitted call begins in range
-  begins-in : (env : Env) (c : ℕ) (batch : Option BatchModel) → IsBatchIn env batch → AreNodesIn env.geometry.nodes batch
+  begins-in : (env : Env) (c : ℕ) (batch : Option BatchModel) (start : ℕ) → IsBatchIn env batch → AreNodesIn env.geometry.nodes batch
       → HasWords env.geometry.callers batch
-      → (call : Call) (machine : Doing M) → machine_of env c batch call ≡ Some machine
+      → (call : Call) (machine : Doing M) → machine_from env c batch call start ≡ Some machine
       → IsAdmittedCall call → IsDoingIn env c machine
-  begins-in env c batch same among words =
-      begins_so M env c batch (λ call machine. IsAdmittedCall call → IsDoingIn env c machine)
+  begins-in env c batch start same among words =
+      begins_so M env c batch start (λ call machine. IsAdmittedCall call → IsDoingIn env c machine)
       (λ port admitted. record { same_env = refl; same_caller = refl; port_in = admitted; at_in = tt })
       (λ port owner once admitted. record {
         same_env = refl;
@@ -134,7 +131,7 @@ module _ (M : Type 0) where
           geometry_same = refl;
           key_in = (let small = admitted.0 in omega arith);
           owner_in = (let small = admitted.1 in omega arith);
-          at_in = record { geometry_same = refl; at_in = first_map_word env.geometry };
+          at_in = record { geometry_same = refl; at_in = start_in-within env start };
         };
       })
       (λ port admitted. record { same_env = refl; same_caller = refl; port_in = admitted; at_in = tt; room_in = refl })
@@ -155,7 +152,7 @@ module _ (M : Type 0) where
           geometry_same = refl;
           key_in = (let small = admitted.0 in omega arith);
           owner_in = (let small = admitted.2 in omega arith);
-          at_in = record { geometry_same = refl; at_in = first_map_word env.geometry };
+          at_in = record { geometry_same = refl; at_in = start_in-within env start };
         };
       })
       (λ admitted. record { same_env = refl; same_caller = refl; at_in = tt })
@@ -330,16 +327,16 @@ module _ (M : Type 0) (mix : ℕ → ℕ → ℕ → ℕ) (env : Env) where
         };
   }
 
-  begin-all : (core : Core M) (c : ℕ) (call : Call) (machine : Option (Doing M)) → IsAdmittedCall call
-      → beginning_in core c call ≡ machine → AllIn core
+  begin-all : (core : Core M) (c : ℕ) (call : Call) (start : ℕ) (machine : Option (Doing M)) → IsAdmittedCall call
+      → beginning_in core c call start ≡ machine → AllIn core
       → (k : ℕ)
       → IsLocalIn env k (local_of (record core {
         locals = with_machine core.env core.locals c machine;
       }) k)
-  begin-all core c call None admitted is all k = all.locals k
-  begin-all core c call (Some machine) admitted is all k =
-      let can = beginning-some core.env core.enrolled core.locals c call machine is in
-      let made = made_in M mix env core c call machine all.stays can in
+  begin-all core c call start None admitted is all k = all.locals k
+  begin-all core c call start (Some machine) admitted is all k =
+      let can = beginning-some core.env core.enrolled core.locals c call start machine is in
+      let made = made_in M mix env core c call start machine all.stays can in
       let here = all.locals c in
       let in_table = idle-batch M (IsBatchIn env) (local_of core c) can.idle here.batch in
       let low = idle-batch M (AreNodesIn env.geometry.nodes) (local_of core c) can.idle here.among in
@@ -347,21 +344,21 @@ module _ (M : Type 0) (mix : ℕ → ℕ → ℕ → ℕ) (env : Env) where
       each_set (IsLocalIn env) (fresh core.env) core.locals c (begin_with (local_of core c) machine)
       (has_place M mix env core c all.stays can.below)
       record {
-        doing = begins-in M env c (local_of core c).batch in_table low words call machine made admitted;
+        doing = begins-in M env c (local_of core c).batch start in_table low words call machine made admitted;
         owners =
-            begun-limit M env c (local_of core c).batch call machine made (local_of core c).owners
+            begun-limit M env c (local_of core c).batch start call machine made (local_of core c).owners
             (idle-limit M (local_of core c) env.geometry.nodes can.idle here.owners);
         pairs =
-            begun-pairs M env c (local_of core c).batch call machine made (local_of core c).pairs
+            begun-pairs M env c (local_of core c).batch start call machine made (local_of core c).pairs
             (idle-pairs M (local_of core c) env.geometry.nodes can.idle here.pairs);
         batch =
-            begun-batch M (IsBatchIn env) env c (local_of core c).batch call machine made in_table
+            begun-batch M (IsBatchIn env) env c (local_of core c).batch start call machine made in_table
             (λ own has. begun-same own ∙ subst (IsBatchIn env) has in_table);
         among =
-            begun-batch M (AreNodesIn env.geometry.nodes) env c (local_of core c).batch call machine made low
+            begun-batch M (AreNodesIn env.geometry.nodes) env c (local_of core c).batch start call machine made low
             (λ own has. begun-low env.geometry.nodes own (subst (AreNodesIn env.geometry.nodes) has low));
         words =
-            begun-batch M (HasWords env.geometry.callers) env c (local_of core c).batch call machine made words
+            begun-batch M (HasWords env.geometry.callers) env c (local_of core c).batch start call machine made words
             (λ own has. begun-words own ∙ subst (HasWords env.geometry.callers) has words);
       }
       all.locals k
@@ -418,10 +415,10 @@ module _ (M : Type 0) (mix : ℕ → ℕ → ℕ → ℕ) (env : Env) where
     words = applied-fit w.core.words (enrolling w.core.env) (omega arith) all.words;
     locals = all.locals;
   }
-  event-all w (Begin c call) admitted all = record {
-    stays = stays-in M mix env w (Begin c call) all.stays;
+  event-all w (Begin c call start) admitted all = record {
+    stays = stays-in M mix env w (Begin c call start) all.stays;
     words = all.words;
-    locals = begin-all w.core c call (beginning_in w.core c call) admitted.1 refl all;
+    locals = begin-all w.core c call start (beginning_in w.core c call start) admitted.1 refl all;
   }
   event-all w (Step c) admitted all =
       let after = step-all w.core c (planned_in w.core c) refl all in
@@ -449,7 +446,7 @@ module _ (M : Type 0) (mix : ℕ → ℕ → ℕ → ℕ) (env : Env) where
   event-kept : (w : World M) (event : Event) → IsOfCaller event → AllIn w.core
       → IsEnrolledKept M mix w (world_step mix w event)
   event-kept w Enroll of all = absurd of
-  event-kept w (Begin c call) of all = record { word = refl; count = refl }
+  event-kept w (Begin c call start) of all = record { word = refl; count = refl }
   event-kept w (Step c) of all = record {
     word = step-kept w.core c (planned_in w.core c) refl all;
     count = step-count M mix env w.core c (planned_in w.core c);

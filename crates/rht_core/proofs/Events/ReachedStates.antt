@@ -70,7 +70,7 @@ module _ (M : Type 0) (mix : ℕ → ℕ → ℕ → ℕ) where
 
   pub event-env : (core : Core M) (event : Event) → (core_step mix core event).0.env ≡ core.env
   event-env core Enroll = refl
-  event-env core (Begin c call) = refl
+  event-env core (Begin c call start) = refl
   event-env core (Step c) = step-env core c (planned_in core c)
 
   core_step-reached : (core : Core M) (event : Event) → IsAdmittedEvent event

@@ -245,9 +245,9 @@ longer env (Some batch) (Some node) is =
     omega (arith, whole, fresh, both)
 
 -- a call says nothing of a node at its beginning
-first_says : (env : Env) (call : Call) (batch : Option BatchModel) → IfSome (first_job env batch call) SaysTaken
-first_says env Tidy batch = first_tidy-so SaysTaken batch (λ own. tt)
-first_says env _ batch = tt
+first_says : (env : Env) (call : Call) (batch : Option BatchModel) (start : ℕ) → IfSome (first_job env batch call start) SaysTaken
+first_says env Tidy batch start = first_tidy-so SaysTaken batch (λ own. tt)
+first_says env _ batch start = tt
 
 pub first-says : (env : Env) (call : Call) (job : Job) → IsFirstJob env call job → SaysTaken job
 first-says env call job is = first-of SaysTaken env call job (first_says env call) is

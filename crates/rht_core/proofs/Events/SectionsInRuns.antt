@@ -243,14 +243,14 @@ module _ (env : Env) (mix : ℕ → ℕ → ℕ → ℕ) where
           | inr ne ↦ rw (get_or-set_other core.locals c d next (fresh core.env) ne) (other d ne low)
         ])
 
-    begin_right : (core : Core L) (c : ℕ) (call : Call) (machine : Option (Doing L)) → HasInv env mix L core
-        → beginning_in core c call ≡ machine → AreRight core
+    begin_right : (core : Core L) (c : ℕ) (call : Call) (start : ℕ) (machine : Option (Doing L)) → HasInv env mix L core
+        → beginning_in core c call start ≡ machine → AreRight core
         → AreRight record core { locals = with_machine core.env core.locals c machine }
-    begin_right core c call None has is right = right
-    begin_right core c call (Some machine) has is right =
-        let can = beginning-some core.env core.enrolled core.locals c call machine is in
+    begin_right core c call start None has is right = right
+    begin_right core c call start (Some machine) has is right =
+        let can = beginning-some core.env core.enrolled core.locals c call start machine is in
         let place = has_place L mix env core c has.all.stays can.below in
-        let first = first_job-machine env c (local_of core c).batch call machine (made_in L mix env core c call machine has.all.stays can) in
+        let first = first_job-machine env c (local_of core c).batch start call machine (made_in L mix env core c call start machine has.all.stays can) in
         let begun : in_section (job_of machine) ≡ false =
         ap in_section first.does ∙ ap (λ (h : Holding). h.section) (first_holds env call first.job first.first) in
         let idle = idle_outside (local_of core c).doing can.idle in
@@ -263,7 +263,7 @@ module _ (env : Env) (mix : ℕ → ℕ → ℕ → ℕ) where
         → AreRight core → AreRight (core_step mix core event).0
     event_right core Enroll has right =
         λ c low. spared core.words (enrolling core.env) has.all.stays.all_words (inl (omega arith)) c low ∙ right c low
-    event_right core (Begin c call) has right = begin_right core c call (beginning_in core c call) has refl right
+    event_right core (Begin c call start) has right = begin_right core c call start (beginning_in core c call start) has refl right
     event_right core (Step c) has right = step_right core c has (planned_in core c) refl right
 
     has_right : (events : List Event) → IsAdmitted events → HasRight (run_of {M = L} mix env events).core

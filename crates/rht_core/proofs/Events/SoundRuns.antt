@@ -25,7 +25,7 @@ use Rattle.rht_core.specs.declared.event.Event.TheVariants.{Enroll, Begin, Step}
 use Rattle.rht_callers.specs.declared.local.Local.{Local}
 use Rattle.rht_callers.specs.declared.local.Doing.{Doing}
 use Rattle.rht_callers.specs.declared.local.Doing.TheVariants.{Idle, Finding, Binding, Releasing, Rebinding, Listing, Working, Counting, Tidying, Walking}
-use Rattle.rht_callers.specs.Locals.{fresh, machine_of, begin_with, doing_after, doing_next, local_after, without_node, IsDoingOf, IsLocalOf}
+use Rattle.rht_callers.specs.Locals.{fresh, machine_from, begin_with, doing_after, doing_next, local_after, without_node, IsDoingOf, IsLocalOf}
 use Rattle.rht_core.specs.Runs.{Core, World, local_of, beginning_in, with_machine, planned_in, with_step, enrolling, enrolled_after, world_step, run_of, opening, opening_core, IsSound}
 use Rattle.rht_callers.proofs.CallBeginnings.{begins_so}
 use Rattle.rht_callers.proofs.NextDoings.{next_so}
@@ -45,10 +45,10 @@ use Rattle.rht_core.proofs.Events.Worlds.{CanBegin, beginning-some, planned-some
 
 module _ (M : Type 0) where
   -- who begins does it in the table of the environment
-  begins-of : (env : Env) (c : ℕ) (batch : Option BatchModel) (call : Call) (machine : Doing M) → machine_of env c batch call ≡ Some machine
+  begins-of : (env : Env) (c : ℕ) (batch : Option BatchModel) (start : ℕ) (call : Call) (machine : Doing M) → machine_from env c batch call start ≡ Some machine
       → IsDoingOf env machine
-  begins-of env c batch =
-      begins_so M env c batch (λ call machine. IsDoingOf env machine) (λ port. refl) (λ port owner once. refl)
+  begins-of env c batch start =
+      begins_so M env c batch start (λ call machine. IsDoingOf env machine) (λ port. refl) (λ port owner once. refl)
       (λ port. refl) (λ port owner. refl) (λ port owner new. refl) refl refl (λ own has. refl) (λ from limit. refl)
 
   -- a tidying stays in its table
@@ -144,29 +144,29 @@ module _ (M : Type 0) (mix : ℕ → ℕ → ℕ → ℕ) (env : Env) where
       (λ f. stays.few_enrolled)
 
   -- who begins does what the run's environment says
-  pub made_in : (core : Core M) (c : ℕ) (call : Call) (machine : Doing M) → StaysIn core
-      → CanBegin core.env core.enrolled core.locals c call machine → machine_of env c (local_of core c).batch call ≡ Some machine
-  made_in core c call machine stays can =
-      subst (λ (e : Env). machine_of e c (local_of core c).batch call ≡ Some machine) stays.same_env can.machine_is
+  pub made_in : (core : Core M) (c : ℕ) (call : Call) (start : ℕ) (machine : Doing M) → StaysIn core
+      → CanBegin core.env core.enrolled core.locals c call start machine → machine_from env c (local_of core c).batch call start ≡ Some machine
+  made_in core c call start machine stays can =
+      subst (λ (e : Env). machine_from e c (local_of core c).batch call start ≡ Some machine) stays.same_env can.machine_is
 
-  begin-in : (core : Core M) (c : ℕ) (call : Call) (machine : Option (Doing M))
-      → beginning_in core c call ≡ machine → StaysIn core
+  begin-in : (core : Core M) (c : ℕ) (call : Call) (start : ℕ) (machine : Option (Doing M))
+      → beginning_in core c call start ≡ machine → StaysIn core
       → StaysIn record core { locals = with_machine core.env core.locals c machine }
-  begin-in core c call None is stays = stays
-  begin-in core c call (Some machine) is stays =
-      let can = beginning-some core.env core.enrolled core.locals c call machine is in
-      let made = made_in core c call machine stays can in
+  begin-in core c call start None is stays = stays
+  begin-in core c call start (Some machine) is stays =
+      let can = beginning-some core.env core.enrolled core.locals c call start machine is in
+      let made = made_in core c call start machine stays can in
       set-in core c (begin_with (local_of core c) machine) stays can.below (record {
-        doing = begins-of M env c (local_of core c).batch call machine made;
+        doing = begins-of M env c (local_of core c).batch start call machine made;
         owners =
-            begun-limit M env c (local_of core c).batch call machine made (local_of core c).owners
+            begun-limit M env c (local_of core c).batch start call machine made (local_of core c).owners
             (idle-limit M (local_of core c) env.geometry.nodes can.idle (stays.locals_of c).owners);
         pairs =
-            begun-pairs M env c (local_of core c).batch call machine made (local_of core c).pairs
+            begun-pairs M env c (local_of core c).batch start call machine made (local_of core c).pairs
             (idle-pairs M (local_of core c) env.geometry.nodes can.idle (stays.locals_of c).pairs);
         batch =
             let in_table = idle-batch M (IsBatchIn env) (local_of core c) can.idle (stays.locals_of c).batch in
-            begun-batch M (IsBatchIn env) env c (local_of core c).batch call machine made in_table
+            begun-batch M (IsBatchIn env) env c (local_of core c).batch start call machine made in_table
             (λ own has. begun-same own ∙ subst (IsBatchIn env) has in_table);
       })
 
@@ -200,8 +200,8 @@ module _ (M : Type 0) (mix : ℕ → ℕ → ℕ → ℕ) (env : Env) where
         all_local = after.all_local;
         locals_of = after.locals_of;
       }
-  stays-in w (Begin c call) stays =
-      begin-in w.core c call (beginning_in w.core c call) refl stays
+  stays-in w (Begin c call start) stays =
+      begin-in w.core c call start (beginning_in w.core c call start) refl stays
   stays-in w (Step c) stays = step-in w.core c (planned_in w.core c) refl stays
 
   pub runs-in : (events : List Event) → StaysIn (run_of mix env events).core

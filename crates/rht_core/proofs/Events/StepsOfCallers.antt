@@ -13,7 +13,7 @@ use Rattle.rht_words.proofs.Members.{count_below-same}
 use Rattle.rht_model.specs.declared.history.Call.{Call}
 use Rattle.rht_model.specs.Endings.{Ending}
 use Rattle.rht_callers.specs.declared.local.Doing.{Doing}
-use Rattle.rht_callers.specs.Locals.{does_nothing, machine_of}
+use Rattle.rht_callers.specs.Locals.{does_nothing, machine_from}
 use Rattle.rht_core.specs.Runs.{Core, local_of, planned_in}
 use Rattle.rht_core.specs.Jobs.{Job, job_plan, job_after, job_of, told}
 use Rattle.rht_callers.proofs.CallBeginnings.{begins_so}
@@ -76,11 +76,11 @@ module _ (env : Env) (mix : ℕ → ℕ → ℕ → ℕ) where
             (sym (begun-some batch (omega (arith, some)))) (waits (first_odd batch.kept 0))
 
     -- a caller that is given a call knows what the first state of its machine says
-    pub begun_knows : (c : ℕ) (batch : Option BatchModel) (call : Call) (machine : Doing L) (M : Memory) (G : Ghost)
-        → machine_of env c batch call ≡ Some machine → KnowsNothing env mix c M G → OwnsNodes env mix c (nodes_in batch) G
+    pub begun_knows : (c : ℕ) (batch : Option BatchModel) (start : ℕ) (call : Call) (machine : Doing L) (M : Memory) (G : Ghost)
+        → machine_from env c batch call start ≡ Some machine → KnowsNothing env mix c M G → OwnsNodes env mix c (nodes_in batch) G
         → Knows c (job_of machine) M G
-    begun_knows c batch call machine M G is knows owns =
-        begins_so L env c batch (λ asked first. Knows c (job_of first) M G)
+    begun_knows c batch start call machine M G is knows owns =
+        begins_so L env c batch start (λ asked first. Knows c (job_of first) M G)
         (λ port. record { knowing = record { only = knows.only; means = knows.means }; fits = tt })
         (λ port owner once. record { knowing = record { only = knows.only; means = knows.means }; fits = (refl, refl) })
         (λ port. record { knowing = record { only = knows.only; means = knows.means }; fits = refl })

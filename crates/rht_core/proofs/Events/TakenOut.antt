@@ -108,9 +108,9 @@ taken_with None = None
 taken_with (Some job) = taken_of job
 
 -- at its beginning a call has taken none
-first-untaken : (env : Env) (call : Call) (batch : Option BatchModel) → IfSome (first_job env batch call) (λ job. taken_of job ≡ None)
-first-untaken env Tidy batch = first_tidy-so (λ job. taken_of job ≡ None) batch (λ own. refl)
-first-untaken env _ batch = refl
+first-untaken : (env : Env) (call : Call) (batch : Option BatchModel) (start : ℕ) → IfSome (first_job env batch call start) (λ job. taken_of job ≡ None)
+first-untaken env Tidy batch start = first_tidy-so (λ job. taken_of job ≡ None) batch (λ own. refl)
+first-untaken env _ batch start = refl
 
 pub first_untaken : (env : Env) (call : Call) (job : Job) → IsFirstJob env call job → taken_of job ≡ None
 first_untaken env call job is = first-of (λ j. taken_of j ≡ None) env call job (first-untaken env call) is

@@ -62,9 +62,9 @@ begun_none batch = go (length batch.waiting) refl
     go (suc count) some =
         ap (λ (b : BatchModel × TidyAt). given_at b.1) (begun-some batch (omega (arith, some))) ∙ asked-none (first_odd batch.kept 0)
 
-first-given : (env : Env) (call : Call) (batch : Option BatchModel) → IfSome (first_job env batch call) (λ job. given_of job ≡ 0)
-first-given env Tidy batch = first_tidy-so (λ job. given_of job ≡ 0) batch begun_none
-first-given env _ batch = refl
+first-given : (env : Env) (call : Call) (batch : Option BatchModel) (start : ℕ) → IfSome (first_job env batch call start) (λ job. given_of job ≡ 0)
+first-given env Tidy batch start = first_tidy-so (λ job. given_of job ≡ 0) batch begun_none
+first-given env _ batch start = refl
 
 pub first_given : (env : Env) (call : Call) (job : Job) → IsFirstJob env call job → given_of job ≡ 0
 first_given env call job is = first-of (λ j. given_of j ≡ 0) env call job (first-given env call) is

@@ -18,7 +18,7 @@ use Rattle.rht_core.specs.declared.event.Event.TheVariants.{Begin, Step}
 use Rattle.rht_core.specs.declared.book.Book.{Book}
 use Rattle.rht_callers.specs.declared.local.Local.{Local}
 use Rattle.rht_callers.specs.declared.local.Doing.{Doing}
-use Rattle.rht_callers.specs.Locals.{fresh, is_idle, machine_of, begin_with, plan_of, local_after, ending_of}
+use Rattle.rht_callers.specs.Locals.{fresh, is_idle, machine_from, begin_with, plan_of, local_after, ending_of}
 use Rattle.rht_core.specs.Runs.{Core, World, View, view_of, local_in, local_of, beginning, beginning_in, with_machine, planned, planned_in, with_step, book_at, book_begun, book_after, books_begun, books_stepped, core_step, world_step, run_from, run_of, opening, IsAdmitted, IsAdmittedEvent}
 use Rattle.rht_core.specs.Laws.{view_begun, view_stepped, Extends}
 
@@ -67,19 +67,19 @@ cond_none false option a is = absurd (cc)
 
 module _ {M : Type 0} where
   -- who begins is enrolled and idle, and has a machine for the call
-  pub record CanBegin (env : Env) (enrolled : ℕ) (locals : List (Local M)) (c : ℕ) (call : Call)
+  pub record CanBegin (env : Env) (enrolled : ℕ) (locals : List (Local M)) (c : ℕ) (call : Call) (start : ℕ)
       (machine : Doing M)
       : Type 0 where
     pub below : c < enrolled
     pub idle : is_idle (local_in env locals c) ≡ true
-    pub machine_is : machine_of env c (local_in env locals c).batch call ≡ Some machine
+    pub machine_is : machine_from env c (local_in env locals c).batch call start ≡ Some machine
 
-  pub beginning-some : (env : Env) (enrolled : ℕ) (locals : List (Local M)) (c : ℕ) (call : Call)
+  pub beginning-some : (env : Env) (enrolled : ℕ) (locals : List (Local M)) (c : ℕ) (call : Call) (start : ℕ)
       (machine : Doing M)
-      → beginning env enrolled locals c call ≡ Some machine → CanBegin env enrolled locals c call machine
-  beginning-some env enrolled locals c call machine is =
+      → beginning env enrolled locals c call start ≡ Some machine → CanBegin env enrolled locals c call start machine
+  beginning-some env enrolled locals c call start machine is =
       let parts =
-      cond_none (nat_lt c enrolled && is_idle (local_in env locals c)) (machine_of env c (local_in env locals c).batch call) machine is in
+      cond_none (nat_lt c enrolled && is_idle (local_in env locals c)) (machine_from env c (local_in env locals c).batch call start) machine is in
       let both = and_parts (nat_lt c enrolled) (is_idle (local_in env locals c)) parts.0 in
       record { below = ltb-true c enrolled both.0; idle = both.1; machine_is = parts.1 }
 
@@ -101,7 +101,7 @@ module _ (M : Type 0) (mix : ℕ → ℕ → ℕ → ℕ) (w : World M) where
   abbrev pair : Local M → Book → View M
   pair local book = record { local = local; book = book }
 
-  module _ (c : ℕ) (call : Call) where
+  module _ (c : ℕ) (call : Call) (start : ℕ) where
     -- the world after a caller has begun with this
     abbrev began_with : Option (Doing M) → World M
     began_with machine = record {
@@ -110,13 +110,13 @@ module _ (M : Type 0) (mix : ℕ → ℕ → ℕ → ℕ) (w : World M) where
     }
 
     -- one that can't be changes nothing
-    pub begin_none : beginning_in w.core c call ≡ None → world_step mix w (Begin c call) ≡ w
+    pub begin_none : beginning_in w.core c call start ≡ None → world_step mix w (Begin c call start) ≡ w
     begin_none is = ap began_with is
 
     -- who begins has the machine and the call
-    pub begin_self : (machine : Doing M) → beginning_in w.core c call ≡ Some machine
+    pub begin_self : (machine : Doing M) → beginning_in w.core c call start ≡ Some machine
         → c < length w.core.locals
-        → view_of (world_step mix w (Begin c call)) c ≡ view_begun call machine (view_of w c)
+        → view_of (world_step mix w (Begin c call start)) c ≡ view_begun call machine (view_of w c)
     begin_self machine is below =
         let begun = begin_with (local_of w.core c) machine in
         let local : local_in w.core.env (slice_set w.core.locals c begun) c ≡ begun =
@@ -137,8 +137,8 @@ module _ (M : Type 0) (mix : ℕ → ℕ → ℕ → ℕ) (w : World M) where
         changed-other w.books c (book_begun call (w.books c)) k other in
         (λ i. pair (local i) (book i))
 
-    pub begin_other : (k : ℕ) → k ≢ c → view_of (world_step mix w (Begin c call)) k ≡ view_of w k
-    begin_other k other = began_other k other (beginning_in w.core c call)
+    pub begin_other : (k : ℕ) → k ≢ c → view_of (world_step mix w (Begin c call start)) k ≡ view_of w k
+    begin_other k other = began_other k other (beginning_in w.core c call start)
 
   module _ (c : ℕ) where
     -- the world after a caller has performed this

@@ -374,14 +374,14 @@ module _ (L : Type 0) (mix : ℕ → ℕ → ℕ → ℕ) (env : Env) where
           other-then job (job_after mix env job old) refl (same_call mix env job old) looked
 
     -- a call begins
-    pub first-looks : (c : ℕ) → c < env.geometry.callers → (call : Call) (batch : Option BatchModel)
-        → IfSome (first_job env batch call) (λ job. JobLooks more core' placed' (then c) c (length events) [] (Some job))
-    first-looks c low (calls.Find port) batch =
+    pub first-looks : (c : ℕ) → c < env.geometry.callers → (call : Call) (batch : Option BatchModel) (start : ℕ)
+        → IfSome (first_job env batch call start) (λ job. JobLooks more core' placed' (then c) c (length events) [] (Some job))
+    first-looks c low (calls.Find port) batch start =
         record { low = low; begun = omega (arith, longer); means = tt; spent = omega arith; met = λ slot within. tt }
-    first-looks c low (calls.Walk from limit) batch = tt
-    first-looks c low calls.Tidy batch =
+    first-looks c low (calls.Walk from limit) batch start = tt
+    first-looks c low calls.Tidy batch start =
         first_tidy-so (λ job. JobLooks more core' placed' (then c) c (length events) [] (Some job)) batch (λ own. tt)
-    first-looks c low _ batch = tt
+    first-looks c low _ batch start = tt
 
     -- the same by the trace and the job that a caller is found with
     pub found_with : (c : ℕ) (trace trace' : Trace) (job job' : Option Job) → trace' ≡ trace → job' ≡ job

@@ -75,30 +75,30 @@ module _ (L : Type 0) (mix : ℕ → ℕ → ℕ → ℕ) (env : Env) where
 
   -- ---- each event
 
-  pub begin-looks : (events : List Event) (c : ℕ) (call : Call) (machine : Option (Doing L)) (looking : AreLooking L mix env events (R events))
-      → (turn : Turns L mix env events (Begin c call) looking)
-      → beginning_in (R events).world.core c call ≡ machine → EachLooks L mix env events (Begin c call) looking turn
-  begin-looks events c call None looking turn is = λ d.
+  pub begin-looks : (events : List Event) (c : ℕ) (call : Call) (start : ℕ) (machine : Option (Doing L)) (looking : AreLooking L mix env events (R events))
+      → (turn : Turns L mix env events (Begin c call start) looking)
+      → beginning_in (R events).world.core c call start ≡ machine → EachLooks L mix env events (Begin c call start) looking turn
+  begin-looks events c call start None looking turn is = λ d.
       let r = R events in
-      as_before L mix env events (Begin c call) looking turn d
-      (ap (λ (w : World L). job_of (local_of w.core d).doing) (begin_none L mix r.world c call is))
-      (ap (λ (t : ℕ → Trace). t d) (trace_begin_none L mix r c call is))
-  begin-looks events c call (Some machine) looking turn is = λ d.
+      as_before L mix env events (Begin c call start) looking turn d
+      (ap (λ (w : World L). job_of (local_of w.core d).doing) (begin_none L mix r.world c call start is))
+      (ap (λ (t : ℕ → Trace). t d) (trace_begin_none L mix r c call start is))
+  begin-looks events c call start (Some machine) looking turn is = λ d.
       let r = R events in
-      let event = Begin c call in
+      let event = Begin c call start in
       let sound = looking.placed.all in
-      let can = beginning-some r.world.core.env r.world.core.enrolled r.world.core.locals c call machine is in
+      let can = beginning-some r.world.core.env r.world.core.enrolled r.world.core.locals c call start machine is in
       let place = has_place L mix env r.world.core c sound.stays can.below in
       let low : c < env.geometry.callers = omega (arith, can.below, sound.stays.few_enrolled) in
-      let first = first_job-machine env c (local_of r.world.core c).batch call machine (made_in L mix env r.world.core c call machine sound.stays can) in
+      let first = first_job-machine env c (local_of r.world.core c).batch start call machine (made_in L mix env r.world.core c call start machine sound.stays can) in
       elim (cases_eq d c) [
         | inl same ↦
             subst (λ k. LooksThen L mix env events event looking turn k (traces_after mix r event k)
             (job_of (local_of (world_step mix r.world event).core k).doing)) (sym same)
             (found_with L mix env events event looking turn c (trace_begun (length events) (r.traces c)) _ (Some first.job) _
-            (trace_begin_self L mix r c call machine is
+            (trace_begin_self L mix r c call start machine is
             ∙ ap (λ n. trace_begun n (r.traces c)) (count-traced_of L mix env events))
-            (ap (λ (s : View L). job_of s.local.doing) (begin_self L mix r.world c call machine is place) ∙ first.does)
+            (ap (λ (s : View L). job_of s.local.doing) (begin_self L mix r.world c call start machine is place) ∙ first.does)
             (record {
               past = pasts-later L mix env events event looking turn c (r.traces c).past (looking.looks c).past;
               now = first-of (λ job. JobLooks L mix env (events ++ event ∷ []) (world_step mix r.world event).core
@@ -107,8 +107,8 @@ module _ (L : Type 0) (mix : ℕ → ℕ → ℕ → ℕ) (env : Env) where
             }))
         | inr other ↦
             as_before L mix env events event looking turn d
-            (ap (λ (s : View L). job_of s.local.doing) (begin_other L mix r.world c call d other))
-            (trace_begin_other L mix r c call d other)
+            (ap (λ (s : View L). job_of s.local.doing) (begin_other L mix r.world c call start d other))
+            (trace_begin_other L mix r c call start d other)
       ]
 
   pub step-looks : (events : List Event) (c : ℕ) (plan : Option Op) → IsAdmitted events → (looking : AreLooking L mix env events (R events))
@@ -310,7 +310,7 @@ module _ (L : Type 0) (mix : ℕ → ℕ → ℕ → ℕ) (env : Env) where
     where
       each : (event : Event) → (turn : Turns L mix env events event looking) → EachLooks L mix env events event looking turn
       each Enroll turn = λ d. as_before L mix env events Enroll looking turn d refl refl
-      each (Begin c call) turn = begin-looks events c call (beginning_in (R events).world.core c call) looking turn refl
+      each (Begin c call start) turn = begin-looks events c call start (beginning_in (R events).world.core c call start) looking turn refl
       each (Step c) turn = step-looks events c (planned_in (R events).world.core c) admitted looking turn refl
 
   unfoldable pub opening-looks : AreLooking L mix env [] (R [])

@@ -277,8 +277,8 @@ module _ (env : Env) (mix : ℕ → ℕ → ℕ → ℕ) (L : Type 0) where
           given = λ n is. absurd (cc);
           apart = λ n is. absurd (cc);
         }
-    event_makes (Begin c call) may =
-        let k = kept env mix L w.core placed.ghost (Begin c call) placed.all placed.inv in
+    event_makes (Begin c call start) may =
+        let k = kept env mix L w.core placed.ghost (Begin c call start) placed.all placed.inv in
         record {
           caller = 0;
           move = Quiet;
@@ -287,7 +287,7 @@ module _ (env : Env) (mix : ℕ → ℕ → ℕ → ℕ) (L : Type 0) where
           ghost = k.ghost;
           same = k.ghost_kept;
           inv = k.inv;
-          all = event-all L mix env w (Begin c call) may placed.all;
+          all = event-all L mix env w (Begin c call start) may placed.all;
           given = λ n is. absurd (cc);
           apart = λ n is. absurd (cc);
         }
@@ -304,5 +304,5 @@ module _ (env : Env) (mix : ℕ → ℕ → ℕ → ℕ) (L : Type 0) where
         → (event_makes event may).ghost ≡ (kept env mix L w.core placed.ghost event placed.all placed.inv).ghost
     unfolding event_makes
     event-ghost Enroll may = refl
-    event-ghost (Begin c call) may = refl
+    event-ghost (Begin c call start) may = refl
     event-ghost (Step c) may = step-ghost c (planned_in w.core c) refl may

@@ -107,11 +107,11 @@ module _ (mix : ℕ → ℕ → ℕ → ℕ) (env : Env) (c : ℕ) where
   other-ended : (call : Call) (ending : Ending) (steps : List Did) → is_look call ≡ false → Ended call ending steps
   other-ended call ending steps other = λ port same. absurd (let both : false ≡ true = sym other ∙ ap is_look same in cc)
 
-  first-now : (call : Call) (batch : Option BatchModel) → IfSome (first_job env batch call) (λ job. Now job [])
-  first-now (Find port) batch = refl
-  first-now (Walk from limit) batch = tt
-  first-now Tidy batch = first_tidy-so (λ job. Now job []) batch (λ own. tt)
-  first-now _ batch = tt
+  first-now : (call : Call) (batch : Option BatchModel) (start : ℕ) → IfSome (first_job env batch call start) (λ job. Now job [])
+  first-now (Find port) batch start = refl
+  first-now (Walk from limit) batch start = tt
+  first-now Tidy batch start = first_tidy-so (λ job. Now job []) batch (λ own. tt)
+  first-now _ batch start = tt
 
   leads : (L : Type 0) (job : Job) (steps : List Did) (did : Did) (performs : Performs mix env job did) → performs.caller ≡ c
       → Now job steps → LeadsOn L mix env Now Ended job (steps ++ did ∷ []) (job_after mix env job did.old)

@@ -201,13 +201,13 @@ module _ (M : Type 0) (mix : ℕ → ℕ → ℕ → ℕ) (env : Env) (start : L
   )
   did-since did (Some ending) book trace (past ∷ next ∷ more, is, this) = absurd this
 
-  alone-begin : (r0.world.books c).call ≡ None → IsAlone (traced_step mix r0 (Begin c call))
+  alone-begin : (r0.world.books c).call ≡ None → IsAlone (traced_step mix r0 (Begin c call 0))
   alone-begin none = record {
     others = λ d ne. record {
-      book = ap (λ (s : View M). s.book) (begin_other M mix r0.world c call d ne);
-      trace = trace_begin_other M mix r0 c call d ne;
+      book = ap (λ (s : View M). s.book) (begin_other M mix r0.world c call 0 d ne);
+      trace = trace_begin_other M mix r0 c call 0 d ne;
     };
-    own = go (beginning_in r0.world.core c call);
+    own = go (beginning_in r0.world.core c call 0);
   }
     where
       go : (machine : Option (Doing M))
@@ -247,7 +247,7 @@ module _ (M : Type 0) (mix : ℕ → ℕ → ℕ → ℕ) (env : Env) (start : L
   alone-after count none =
       let opened = traced_opening M mix env in
       subst IsAlone (sym (traced_from-append M mix opened start (call_events M mix c call count)))
-      (alone-steps count (traced_step mix r0 (Begin c call)) (alone-begin none))
+      (alone-steps count (traced_step mix r0 (Begin c call 0)) (alone-begin none))
 
   -- the one call that has ended since is this call
   pub has-ended : (r : Traced M) (past : Past) → IsAlone r → (r.traces c).past ≡ old ++ past ∷ []

@@ -83,43 +83,43 @@ module _ (M : Type 0) (mix : ℕ → ℕ → ℕ → ℕ) (env : Env) where
 
   -- ---- a call begins
 
-  begin-fits : (events : List Event) (c : ℕ) (call : Call) (machine : Option (Doing M))
+  begin-fits : (events : List Event) (c : ℕ) (call : Call) (start : ℕ) (machine : Option (Doing M))
       → IsAdmitted events
-      → beginning_in (R events).world.core c call ≡ machine → IsFitting M mix env events (R events)
-      → IsFitting M mix env (events ++ Begin c call ∷ []) (traced_step mix (R events) (Begin c call))
-  begin-fits events c call None admitted is fitting =
+      → beginning_in (R events).world.core c call start ≡ machine → IsFitting M mix env events (R events)
+      → IsFitting M mix env (events ++ Begin c call start ∷ []) (traced_step mix (R events) (Begin c call start))
+  begin-fits events c call start None admitted is fitting =
       let r = R events in
-      let same = begin_none M mix r.world c call is in
-      quiet-fits M mix env events (Begin c call) (same-agree M mix env events (Begin c call) refl)
+      let same = begin_none M mix r.world c call start is in
+      quiet-fits M mix env events (Begin c call start) (same-agree M mix env events (Begin c call start) refl)
       (λ d. ap (λ (w : World M). job_of (local_of w.core d).doing) same)
-      (λ d. ap (λ (t : ℕ → Trace). t d) (trace_begin_none M mix r c call is))
-      (λ d. there-same M mix env events (Begin c call) refl _) fitting
-  begin-fits events c call (Some machine) admitted is fitting =
+      (λ d. ap (λ (t : ℕ → Trace). t d) (trace_begin_none M mix r c call start is))
+      (λ d. there-same M mix env events (Begin c call start) refl _) fitting
+  begin-fits events c call start (Some machine) admitted is fitting =
       let r = R events in
-      let more = events ++ Begin c call ∷ [] in
-      let can = beginning-some r.world.core.env r.world.core.enrolled r.world.core.locals c call machine is in
+      let more = events ++ Begin c call start ∷ [] in
+      let can = beginning-some r.world.core.env r.world.core.enrolled r.world.core.locals c call start machine is in
       let stays = stays_in M mix env events in
       let place = has_place M mix env r.world.core c stays can.below in
-      let first = first_job-machine env c (local_of r.world.core c).batch call machine
-      (made_in M mix env r.world.core c call machine stays can) in
-      let here = begin_self M mix r.world c call machine is place in
+      let first = first_job-machine env c (local_of r.world.core c).batch start call machine
+      (made_in M mix env r.world.core c call start machine stays can) in
+      let here = begin_self M mix r.world c call start machine is place in
       let was = fitting.callers c in
       let none : entries_of c fitting.history ≡ was.es = idle_at events c _ (r.traces c) was.es _
       (sym (nothing-job (local_of r.world.core c).doing) ∙ can.idle) was.now in
-      let longer = length_push events (Begin c call) in
+      let longer = length_push events (Begin c call start) in
       record {
         history = fitting.history;
-        good = good-quiet M mix env events (Begin c call) fitting.history fitting.good
-            (same-agree M mix env events (Begin c call) refl);
+        good = good-quiet M mix env events (Begin c call start) fitting.history fitting.good
+            (same-agree M mix env events (Begin c call start) refl);
         callers = λ d. elim (cases_eq d c) [
           | inl same ↦
               subst (λ k. IsOfCaller M mix env more k (job_of (local_of
-              (traced_step mix r (Begin c call)).world.core k).doing)
-              (traces_after mix r (Begin c call) k) (entries_of k fitting.history)) (sym same)
+              (traced_step mix r (Begin c call start)).world.core k).doing)
+              (traces_after mix r (Begin c call start) k) (entries_of k fitting.history)) (sym same)
               (subst (λ (s : View M). IsOfCaller M mix env more c (job_of s.local.doing)
-              (traces_after mix r (Begin c call) c) (entries_of c fitting.history)) (sym here)
+              (traces_after mix r (Begin c call start) c) (entries_of c fitting.history)) (sym here)
               (subst (λ (t : Trace). IsOfCaller M mix env more c (job_of machine) t (entries_of c fitting.history))
-              (sym (trace_begin_self M mix r c call machine is))
+              (sym (trace_begin_self M mix r c call start machine is))
               (subst (λ (j : Option Job). IsOfCaller M mix env more c j (trace_begun r.count (r.traces c))
               (entries_of c fitting.history)) (sym first.does)
               (record {
@@ -141,9 +141,9 @@ module _ (M : Type 0) (mix : ℕ → ℕ → ℕ → ℕ) (env : Env) where
                 };
               }))))
           | inr other ↦
-              of-more M mix env events (Begin c call) d _ _ _ _ _ _
-              (ap (λ (s : View M). job_of s.local.doing) (begin_other M mix r.world c call d other))
-              (trace_begin_other M mix r c call d other) refl (there-same M mix env events (Begin c call) refl _)
+              of-more M mix env events (Begin c call start) d _ _ _ _ _ _
+              (ap (λ (s : View M). job_of s.local.doing) (begin_other M mix r.world c call start d other))
+              (trace_begin_other M mix r c call start d other) refl (there-same M mix env events (Begin c call start) refl _)
               (fitting.callers d)
         ];
       }
@@ -406,8 +406,8 @@ module _ (M : Type 0) (mix : ℕ → ℕ → ℕ → ℕ) (env : Env) where
       → IsFitting M mix env (events ++ event ∷ []) (traced_step mix (R events) event)
   event-fits events Enroll admitted fitting =
       quiet-fits M mix env events Enroll (enroll-agree M mix env events admitted) (λ d. refl) (λ d. refl) (enroll-stays M mix env events admitted) fitting
-  event-fits events (Begin c call) admitted fitting =
-      begin-fits events c call (beginning_in (R events).world.core c call) admitted refl fitting
+  event-fits events (Begin c call start) admitted fitting =
+      begin-fits events c call start (beginning_in (R events).world.core c call start) admitted refl fitting
   event-fits events (Step c) admitted fitting = step-fits events c (planned_in (R events).world.core c)
       admitted refl fitting
 

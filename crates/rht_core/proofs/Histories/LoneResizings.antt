@@ -54,9 +54,9 @@ no_tidy None state is = cc
 no_tidy (Some own) state is = cc
 
 pub first_work : (env : Env) (call : Call) (state : WorkAt) → IsFirstJob env call (works state) → works_at.WorkLock ≡ state
-first_work env Work state (batch, is) = cc
-first_work env Tidy state (batch, is) = absurd (no_tidy batch state is)
-first_work env _ state (batch, is) = absurd (cc)
+first_work env Work state (batch, start, is) = cc
+first_work env Tidy state (batch, start, is) = absurd (no_tidy batch state is)
+first_work env _ state (batch, start, is) = absurd (cc)
 
 module _ (M : Type 0) (mix : ℕ → ℕ → ℕ → ℕ) (env : Env) (events : List Event) (c : ℕ) where
   abbrev words_at : ℕ → List ℕ

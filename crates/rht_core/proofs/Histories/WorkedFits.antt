@@ -12,7 +12,7 @@ use Rattle.rht_words.specs.declared.env.Env.{Env}
 use Rattle.rht_words.specs.declared.op.Op.{Op}
 use Rattle.rht_words.specs.declared.op.Op.TheVariants.{Load, Add}
 use Rattle.rht_words.specs.Places.{page_map_at, nodes_at, pages_at, first_address, slot_address, node_word, address_at}
-use Rattle.rht_words.specs.Settled.{IsSettled, plain_config}
+use Rattle.rht_words.specs.Settled.{IsSettled, plain_config, plain_ways}
 use Rattle.rht_words.specs.Sizes.{rounded_up, powers}
 use Rattle.rht_model.specs.declared.history.Call.{Call}
 use Rattle.rht_model.specs.declared.history.Call.TheVariants.{Find}
@@ -58,6 +58,7 @@ abbrev env : Env
 env = record {
   geometry = record { nodes = 1; pages = 4; callers = 2; within = config_settled.geometry };
   config = config;
+  ways = plain_ways;
   settled = config_settled;
   agrees = record { nodes_same = refl; pages_same = refl; callers_same = refl };
 }
@@ -69,9 +70,9 @@ itself port second seed = port
 -- two enrollings; the look-ups of ports 5 and 6, by turns; and that of port 7
 abbrev events : List Event
 events =
-    Enroll ∷ Enroll ∷ Begin 0 (Find 5) ∷ Begin 1 (Find 6)
+    Enroll ∷ Enroll ∷ Begin 0 (Find 5) 0 ∷ Begin 1 (Find 6) 0
     ∷ Step 0 ∷ Step 1 ∷ Step 0 ∷ Step 1 ∷ Step 0 ∷ Step 1 ∷ Step 0 ∷ Step 1 ∷ Step 0 ∷ Step 1 ∷ Step 0 ∷ Step 1 ∷ Step 0 ∷ Step 1
-    ∷ Begin 0 (Find 7) ∷ Step 0 ∷ Step 0 ∷ Step 0 ∷ Step 0 ∷ Step 0 ∷ Step 0 ∷ Step 0 ∷ []
+    ∷ Begin 0 (Find 7) 0 ∷ Step 0 ∷ Step 0 ∷ Step 0 ∷ Step 0 ∷ Step 0 ∷ Step 0 ∷ Step 0 ∷ []
 
 abbrev did : ℕ → Op → ℕ → Did
 did index op old = record { index = index; op = op; old = old }

@@ -20,6 +20,8 @@ use Rattle.rht_model.specs.Endings.{Ending, plain_ending}
 use Rattle.rht_find.specs.Find.{after_at as find_after_at}
 use Rattle.rht_bind.specs.Bind.{after_at}
 use Rattle.rht_release.specs.All as all
+use Rattle.rht_words.specs.Ways.{start_in}
+use Rattle.rht_arena.proofs.NodesSeen.{SawPassed-none}
 use Rattle.rht_core.specs.declared.event.Event.{Event}
 use Rattle.rht_grace.specs.Batch.{BatchModel}
 use Rattle.rht_core.specs.Jobs.{listing_ending, node_ending, call_of, Job, finds, binds, releases, rebinds, lists, works, tidies, tidying, tidied, walks, walk_ending, walk_gone, counts, first_job, job_next, job_after, IsFirstJob}
@@ -152,14 +154,14 @@ module _ (M : Type 0) (mix : ℕ → ℕ → ℕ → ℕ) (env : Env) (events : 
   job-leads counts steps did performs own now saw =
       Any-push (LoadedCount env did.old) steps did (record { loaded = performs.planned; found = refl })
 
-  -- below the first node there is none
-  first-saw : (call : Call) (batch : Option BatchModel) → IfSome (first_job env batch call) (λ job. JobSaw env c words_at mix job [])
-  first-saw (Bind port owner once) batch = (λ node l. absurd (omega arith), (tt, tt))
-  first-saw (Release port owner) batch = (tt, tt)
-  first-saw (Rebind port owner new) batch = λ node l. absurd (omega arith)
-  first-saw Work batch = refl
-  first-saw Tidy batch = first_tidy-so (λ job. JobSaw env c words_at mix job []) batch (first_tidy-saw env.geometry)
-  first-saw _ batch = tt
+  -- who has only begun has come past no node
+  first-saw : (call : Call) (batch : Option BatchModel) (start : ℕ) → IfSome (first_job env batch call start) (λ job. JobSaw env c words_at mix job [])
+  first-saw (Bind port owner once) batch start = (SawPassed-none env.geometry (start_in env start), (tt, tt))
+  first-saw (Release port owner) batch start = (tt, tt)
+  first-saw (Rebind port owner new) batch start = SawPassed-none env.geometry (start_in env start)
+  first-saw Work batch start = refl
+  first-saw Tidy batch start = first_tidy-so (λ job. JobSaw env c words_at mix job []) batch (first_tidy-saw env.geometry)
+  first-saw _ batch start = tt
 
   pub first_job-saw : (call : Call) (job : Job) → IsFirstJob env call job
       → JobSaw env c words_at mix job []

@@ -205,10 +205,10 @@ module _ (mix : ℕ → ℕ → ℕ → ℕ) (env : Env) where
   -- ---- jobs
 
   -- at its beginning a listing has loaded none, and its room is empty
-  first-keeps : (call : Call) (batch : Option BatchModel) → IfSome (first_job env batch call) (λ job. Keeps job [])
-  first-keeps (All port) batch = refl
-  first-keeps Tidy batch = first_tidy-so (λ job. Keeps job []) batch (λ own. tt)
-  first-keeps _ batch = tt
+  first-keeps : (call : Call) (batch : Option BatchModel) (start : ℕ) → IfSome (first_job env batch call start) (λ job. Keeps job [])
+  first-keeps (All port) batch start = refl
+  first-keeps Tidy batch start = first_tidy-so (λ job. Keeps job []) batch (λ own. tt)
+  first-keeps _ batch start = tt
 
   begins : (call : Call) (job : Job) → IsFirstJob env call job → Keeps job []
   begins call job is = first-of (λ j. Keeps j []) env call job (first-keeps call) is

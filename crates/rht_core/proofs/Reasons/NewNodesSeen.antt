@@ -1,5 +1,5 @@
--- What whoever makes a new node has seen: while it looks for a free one, that each node below the one at
--- which it stands was taken. So where it finds none, each was.
+-- What whoever makes a new node has seen: while it looks for a free one, that each node that it has come past
+-- was taken. So where it finds none, each was.
 use Rattle.std.proofs.Common.{◌≡◌, ℕ, List, [], ◌∷◌, ◌++◌, map, sym, ap, ◌∙◌, subst}
 use Rattle.std.specs.Prelude.{Option, Some, None}
 use Rattle.std.proofs.lemmas.List.{map-append}
@@ -12,13 +12,14 @@ use Rattle.rht_arena.specs.TakeNode.{TakeNodeModel, take_node_after, IsTakeAtIn,
 use Rattle.rht_arena.specs.NewNode.{NewNodeModel, new_node_plan, new_node_plan_at, new_node_after_at, node_taken, IsNewNodeAtIn, IsNewNodeIn}
 use Rattle.rht_arena.specs.declared.new_node.NewNodeAt.{NewNodeAt}
 use Rattle.rht_arena.specs.declared.new_node.NewNodeAt.TheVariants as news
-use Rattle.rht_arena.proofs.NodesSeen.{first_unseen, SawAllBelow, SawSoFar, take_after-saw}
+use Rattle.rht_arena.proofs.NodesSeen.{first_unseen, SawAllBelow, SawPassed, SawSoFar, take_after-saw}
 use Rattle.rht_core.specs.Traces.{Did, performed_of}
 
 module _ (env : Env) where
   -- while it looks for a node; later that is of no use
   abbrev pub SawNew : NewNodeAt → List Did → Type 0
-  SawNew (news.Taking take) steps = SawAllBelow env.geometry (first_unseen take.at) (map performed_of steps)
+  SawNew (news.Taking take) steps =
+      SawPassed env.geometry take.start (first_unseen take.at) (map performed_of steps)
   SawNew (news.Key node) steps = Unit {0}
   SawNew (news.Owner node) steps = Unit {0}
   SawNew (news.ListLink node) steps = Unit {0}
@@ -44,7 +45,7 @@ module _ (env : Env) where
       let before = map performed_of steps in
       let planned = plan ∙ ap (new_node_plan_at new.geometry new.key new.owner) is in
       let range = subst (λ (h : Geometry). IsTakeAtIn h take.at) (sym fits.geometry_same) fits.at_in in
-      let saw_below = subst (λ (h : Geometry). SawAllBelow h (first_unseen take.at) before)
+      let saw_below = subst (λ (h : Geometry). SawPassed h take.start (first_unseen take.at) before)
       (sym fits.geometry_same) saw in
       let after = take_after-saw take take.at before (performed_of did) planned range saw_below in
       let here =

@@ -73,7 +73,7 @@ module _ (env : Env) (mix : ℕ → ℕ → ℕ → ℕ) where
           state = state_stays c M M' G G inv.whole kept.0 (kept.1 c) works s low;
           kept = λ d few. kept_stays c M M' G G inv.whole kept.0 (kept.1 c) works s d low few;
         }
-    others_leave core G (Begin d call) all inv c others works s low = slot_same s core.words core.words refl
+    others_leave core G (Begin d call start) all inv c others works s low = slot_same s core.words core.words refl
     others_leave core G (Step d) all inv c (inr none) works s low =
         slot_same s core.words (core_step mix core (Step d)).0.words (ap (λ o. (with_step mix core d o).0.words) none)
     others_leave core G (Step d) all inv c (inl ne) works s low = go (planned_in core d) refl

@@ -201,9 +201,9 @@ job_outside mix env (tidies batch state) out =
 job_outside mix env counts out = record { before = refl; behind = λ old. refl }
 
 -- a call begins nowhere
-first-nowhere : (env : Env) (call : Call) (batch : Option BatchModel) → IfSome (first_job env batch call) (λ job. standing_of job ≡ stands_nowhere)
-first-nowhere env Tidy batch = first_tidy-so (λ job. standing_of job ≡ stands_nowhere) batch (λ own. refl)
-first-nowhere env _ batch = refl
+first-nowhere : (env : Env) (call : Call) (batch : Option BatchModel) (start : ℕ) → IfSome (first_job env batch call start) (λ job. standing_of job ≡ stands_nowhere)
+first-nowhere env Tidy batch start = first_tidy-so (λ job. standing_of job ≡ stands_nowhere) batch (λ own. refl)
+first-nowhere env _ batch start = refl
 
 pub first_stands : (env : Env) (call : Call) (job : Job) → IsFirstJob env call job → standing_of job ≡ stands_nowhere
 first_stands env call job is =

@@ -128,13 +128,13 @@ module _ (env : Env) (mix : ℕ → ℕ → ℕ → ℕ) (L : Type 0) where
         ap (λ (l : Local L). job_of l.doing) (get_or-set_other core.locals d c local (fresh core.env) ne)
 
     -- and one that begins a call does its first job
-    pub begun_job : (c d : ℕ) (call : Call) (machine : Option (Doing L)) → beginning_in core d call ≡ machine
+    pub begun_job : (c d : ℕ) (call : Call) (start : ℕ) (machine : Option (Doing L)) → beginning_in core d call start ≡ machine
         → StaysOrBegins core (record core { locals = with_machine core.env core.locals d machine }) c
-    begun_job c d call None is = inl refl
-    begun_job c d call (Some machine) is =
-        let can = beginning-some core.env core.enrolled core.locals d call machine is in
+    begun_job c d call start None is = inl refl
+    begun_job c d call start (Some machine) is =
+        let can = beginning-some core.env core.enrolled core.locals d call start machine is in
         let place = has_place L mix env core d all.stays can.below in
-        let first = first_job-machine env d (local_of core d).batch call machine (made_in L mix env core d call machine all.stays can) in
+        let first = first_job-machine env d (local_of core d).batch start call machine (made_in L mix env core d call start machine all.stays can) in
         let local = begin_with (local_of core d) machine in
         elim (cases_eq c d) [
           | inl e ↦ inr (record {
@@ -227,8 +227,8 @@ module _ (env : Env) (mix : ℕ → ℕ → ℕ → ℕ) (L : Type 0) where
 
       pub event_leads : (event : Event) (c : ℕ) → c < env.geometry.callers → Leads core (core_step mix core event).0 G c
       event_leads Enroll c low = no_further _ c low (inl refl)
-      event_leads (Begin d call) c low =
-          no_further _ c low (begun_job core G all inv c d call (beginning_in core d call) refl)
+      event_leads (Begin d call start) c low =
+          no_further _ c low (begun_job core G all inv c d call start (beginning_in core d call start) refl)
       event_leads (Step d) c low = step_leads c d low (planned_in core d) refl
 
   -- ---- what is known of each section

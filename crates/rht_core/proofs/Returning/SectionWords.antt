@@ -95,7 +95,7 @@ module _ (env : Env) (mix : ℕ → ℕ → ℕ → ℕ) (L : Type 0) where
   -- the event is no operation of the caller
   abbrev pub IsOthers : Core L → Event → ℕ → Type 0
   IsOthers core Enroll d = Unit {0}
-  IsOthers core (Begin c call) d = Unit {0}
+  IsOthers core (Begin c call start) d = Unit {0}
   IsOthers core (Step c) d = (d ≢ c) ⊎ (planned_in core c ≡ None)
 
   pub others_same : (core : Core L) (G : Ghost) (event : Event) → AllIn L mix env core → AllIn L mix env (core_step mix core event).0
@@ -103,7 +103,7 @@ module _ (env : Env) (mix : ℕ → ℕ → ℕ → ℕ) (L : Type 0) where
       → section (core_step mix core event).0.words d ≡ section core.words d
   others_same core G Enroll all all' inv d low others =
       applied-other core.words (enrolling core.env) (8 + d) (λ at. absurd (omega (arith, at, low)))
-  others_same core G (Begin c call) all all' inv d low others = refl
+  others_same core G (Begin c call start) all all' inv d low others = refl
   others_same core G (Step c) all all' inv d low (inr none) = ap (λ o. section (with_step mix core c o).0.words d) none
   others_same core G (Step c) all all' inv d low (inl ne) = go (planned_in core c) refl
     where
@@ -118,7 +118,7 @@ module _ (env : Env) (mix : ℕ → ℕ → ℕ → ℕ) (L : Type 0) where
       → Inv env mix L core G → (d : ℕ) → d < 16 → SameOrTurned core.words (core_step mix core event).0.words d
   event_turns core G Enroll all all' inv d low =
       inl (applied-other core.words (enrolling core.env) (8 + d) (λ at. absurd (omega (arith, at, low))))
-  event_turns core G (Begin c call) all all' inv d low = inl refl
+  event_turns core G (Begin c call start) all all' inv d low = inl refl
   event_turns core G (Step c) all all' inv d low = go (planned_in core c) refl
     where
       go : (plan : Option Op) → planned_in core c ≡ plan → SameOrTurned core.words (core_step mix core (Step c)).0.words d

@@ -56,9 +56,9 @@ module _ (env : Env) (mix : ℕ → ℕ → ℕ → ℕ) where
   tied_with G (Some job) = tied_of G job
 
   -- it is so of a job with which a call begins
-  first-tied : (G : Ghost) (call : Call) (batch : Option BatchModel) → IfSome (first_job env batch call) (tied_of G)
-  first-tied G Tidy batch = first_tidy-so (tied_of G) batch (λ own. tt)
-  first-tied G _ batch = tt
+  first-tied : (G : Ghost) (call : Call) (batch : Option BatchModel) (start : ℕ) → IfSome (first_job env batch call start) (tied_of G)
+  first-tied G Tidy batch start = first_tidy-so (tied_of G) batch (λ own. tt)
+  first-tied G _ batch start = tt
 
   pub first_ties : (G : Ghost) (call : Call) (job : Job) → IsFirstJob env call job → tied_of G job
   first_ties G call job is = first-of (tied_of G) env call job (first-tied G call) is

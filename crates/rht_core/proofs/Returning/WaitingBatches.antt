@@ -22,7 +22,7 @@ use Rattle.rht_grace.specs.Tidy.{TidyModel, after_at, moved}
 use Rattle.rht_grace.specs.declared.tidy.TidyAt.{TidyAt}
 use Rattle.rht_grace.specs.declared.tidy.TidyAt.TheVariants as at
 use Rattle.rht_callers.specs.Batches.{nodes_in, nodes_left, nodes_held, with_out, node_out, batch_beside, batch_after, batch_given}
-use Rattle.rht_callers.specs.Locals.{machine_of, doing_after, doing_next, without_node}
+use Rattle.rht_callers.specs.Locals.{machine_from, doing_after, doing_next, without_node}
 use Rattle.rht_callers.specs.PortCounts.{count_after}
 use Rattle.rht_callers.specs.declared.local.Doing.{Doing}
 use Rattle.rht_callers.specs.declared.local.Doing.TheVariants.{Idle, Finding, Binding, Listing, Releasing, Rebinding, Working, Counting, Tidying, Walking}
@@ -59,10 +59,10 @@ module _ (env : Env) (mix : ℕ → ℕ → ℕ → ℕ) (L : Type 0) where
 
     -- ---- a call begins
 
-    pub begun_of : (c : ℕ) (batch : Option BatchModel) (call : Call) (machine : Doing L) → machine_of env c batch call ≡ Some machine
+    pub begun_of : (c : ℕ) (batch : Option BatchModel) (start : ℕ) (call : Call) (machine : Doing L) → machine_from env c batch call start ≡ Some machine
         → waits_own batch → waits_of machine (batch_beside machine batch)
-    begun_of c batch call machine is waits =
-        begins_so L env c batch (λ asked first. waits_of first (batch_beside first batch))
+    begun_of c batch start call machine is waits =
+        begins_so L env c batch start (λ asked first. waits_of first (batch_beside first batch))
         (λ port. waits) (λ port owner once. waits) (λ port. waits) (λ port owner. waits) (λ port owner new. waits) waits waits
         (λ own has. begun_waits env mix M readers own (subst waits_own has waits)) (λ from limit. waits)
         call machine is

@@ -89,15 +89,15 @@ module _ (env : Env) (mix : ℕ → ℕ → ℕ → ℕ) (L : Type 0) where
     abbrev M : Memory
     M = mem env mix core.words
 
-    begin_waits : (c : ℕ) (call : Call) (machine : Option (Doing L)) → beginning_in core c call ≡ machine → AllWait core readers core
+    begin_waits : (c : ℕ) (call : Call) (start : ℕ) (machine : Option (Doing L)) → beginning_in core c call start ≡ machine → AllWait core readers core
         → AllWait core readers (record core { locals = with_machine core.env core.locals c machine })
-    begin_waits c call None is waits = waits
-    begin_waits c call (Some machine) is waits =
-        let can = beginning-some core.env core.enrolled core.locals c call machine is in
+    begin_waits c call start None is waits = waits
+    begin_waits c call start (Some machine) is waits =
+        let can = beginning-some core.env core.enrolled core.locals c call start machine is in
         let place = has_place L mix env core c all.stays can.below in
         let local = local_of core c in
         each_set (Waits core readers) (fresh core.env) core.locals c (begin_with local machine) place
-        (λ low. begun_of env mix L M readers c local.batch call machine (made_in L mix env core c call machine all.stays can)
+        (λ low. begun_of env mix L M readers c local.batch start call machine (made_in L mix env core c call start machine all.stays can)
         (idle-own M readers local.doing local.batch can.idle (waits c low)))
         waits
 
@@ -115,7 +115,7 @@ module _ (env : Env) (mix : ℕ → ℕ → ℕ → ℕ) (L : Type 0) where
 
     pub event_waits : (event : Event) → AllWait core readers core → AllWait core readers (core_step mix core event).0
     event_waits Enroll waits = waits
-    event_waits (Begin c call) waits = begin_waits c call (beginning_in core c call) refl waits
+    event_waits (Begin c call start) waits = begin_waits c call start (beginning_in core c call start) refl waits
     event_waits (Step c) waits = step_waits c (planned_in core c) refl waits
 
     -- ---- a node that is given back

@@ -66,7 +66,7 @@ module _ (M : Type 0) (mix : ℕ → ℕ → ℕ → ℕ) where
 
     step-later : (event : Event) → HasLater r.count early (traces_after mix r event c).past
     step-later Enroll = none-later r.count early
-    step-later (Begin k call) = go (beginning_in r.world.core k call)
+    step-later (Begin k call start) = go (beginning_in r.world.core k call start)
       where
         go : (machine : Option (Doing M)) → HasLater r.count early (traces_begun r k machine c).past
         go None = none-later r.count early

@@ -25,7 +25,7 @@ use Rattle.rht_callers.specs.declared.local.Local.{Local}
 use Rattle.rht_callers.specs.declared.local.Doing.{Doing}
 use Rattle.rht_callers.specs.declared.local.Doing.TheVariants.{Tidying}
 use Rattle.rht_callers.specs.Batches.{IsBatchIn, batch_room, batch_beside, with_out, out_of}
-use Rattle.rht_callers.specs.Locals.{is_idle, machine_of, doing_next, doing_after, local_after, ending_of, IsDoingOf}
+use Rattle.rht_callers.specs.Locals.{is_idle, machine_from, doing_next, doing_after, local_after, ending_of, IsDoingOf}
 use Rattle.rht_callers.proofs.BatchesOfCallers.{idle-batch, batch_after-out}
 use Rattle.rht_callers.proofs.CallBeginnings.{begins_so}
 use Rattle.rht_core.specs.declared.event.Event.{Event}
@@ -105,10 +105,10 @@ module _ (batch_at : ℕ → BatchModel) where
 
 module _ (M : Type 0) (mix : ℕ → ℕ → ℕ → ℕ) (env : Env) where
   -- who begins with a call that is no tidying has its batch still
-  begun_beside : (c : ℕ) (batch : Option BatchModel) (call : Call) (machine : Doing M) → machine_of env c batch call ≡ Some machine
+  begun_beside : (c : ℕ) (batch : Option BatchModel) (start : ℕ) (call : Call) (machine : Doing M) → machine_from env c batch call start ≡ Some machine
       → IsNone M mix env machine → batch_room machine (batch_beside machine batch) ≡ batch
-  begun_beside c batch =
-      begins_so M env c batch (λ call machine. IsNone M mix env machine → batch_room machine (batch_beside machine batch) ≡ batch)
+  begun_beside c batch start =
+      begins_so M env c batch start (λ call machine. IsNone M mix env machine → batch_room machine (batch_beside machine batch) ≡ batch)
       (λ port none. refl) (λ port owner once none. refl) (λ port none. refl) (λ port owner none. refl) (λ port owner new none. refl)
       (λ none. refl) (λ none. refl) (λ own has none. absurd (none _ refl)) (λ from limit none. refl)
 
@@ -155,28 +155,28 @@ module _ (M : Type 0) (mix : ℕ → ℕ → ℕ → ℕ) (env : Env) where
 
     -- ---- a call begins
 
-    begin-keeps : (so_far rest : List Event) (call : Call) (machine : Doing M) (index : ℕ) (view : View M) (trace : Trace)
+    begin-keeps : (so_far rest : List Event) (call : Call) (start : ℕ) (machine : Doing M) (index : ℕ) (view : View M) (trace : Trace)
         → events ≡ so_far ++ rest → index ≡ length so_far → view_of (traced_of {M = M} mix env so_far).world c ≡ view
-        → is_idle view.local ≡ true → machine_of env c view.local.batch call ≡ Some machine → Keeps view trace
+        → is_idle view.local ≡ true → machine_from env c view.local.batch call start ≡ Some machine → Keeps view trace
         → Keeps (view_begun call machine view) (trace_begun index trace)
-    begin-keeps so_far rest call machine index view trace all at now idle is keeps =
+    begin-keeps so_far rest call start machine index view trace all at now idle is keeps =
         let here : local_of (run_of {M = M} mix env so_far).core c ≡ view.local =
         ap (λ (w : World M). local_of w.core c) (sym (world-traced_of M mix env so_far)) ∙ ap (λ (v : View M). v.local) now in
         let left : batch_at index ≡ own view.local =
         batch-next M mix env events c so_far rest all index at
         ∙ of-core M mix env c (run_of {M = M} mix env so_far).core view.local (runs-in M mix env so_far).same_env here in
-        let first = first_job-machine env c view.local.batch call machine is in
+        let first = first_job-machine env c view.local.batch start call machine is in
         let one : (job : Job) → job_of machine ≡ Some job → first.job ≡ job = λ job has. (let both = sym first.does ∙ has in cc) in
         record {
           past = keeps.past;
           joined = keeps.joined;
-          rested = λ idle_now. absurd (let busy = begun_busy M env c view.local.batch call machine is in cc);
+          rested = λ idle_now. absurd (let busy = begun_busy M env c view.local.batch start call machine is in cc);
           begun = λ busy. left ∙ sym (keeps.rested idle);
           beside = λ busy none.
               left
               ∙ ap (batch_or env.geometry)
               (idle-batch M (λ batch. batch_room view.local.doing view.local.batch ≡ batch) view.local idle refl
-              ∙ sym (begun_beside c view.local.batch call machine is none));
+              ∙ sym (begun_beside c view.local.batch start call machine is none));
           does = λ job has. ap Some (sym first.asked ∙ ap call_of (one job has));
           out = λ job n has taken.
               let none : None ≡ Some n = sym (first_untaken env call first.job first.first) ∙ ap taken_of (one job has) ∙ taken in absurd (cc);
@@ -412,11 +412,11 @@ module _ (M : Type 0) (mix : ℕ → ℕ → ℕ → ℕ) (env : Env) where
         called = λ busy. absurd (cc);
       };
       stays = λ so_far event k view trace section keeps mine rest all. keeps mine (event ∷ rest) (next_event so_far event rest all);
-      begins = λ so_far k call machine index view trace at now idle is keeps mine rest all.
-          let next = next_event so_far (Begin k call) rest all in
-          begin-keeps so_far (Begin k call ∷ rest) call machine index view trace next at
+      begins = λ so_far k call start machine index view trace at now idle is keeps mine rest all.
+          let next = next_event so_far (Begin k call start) rest all in
+          begin-keeps so_far (Begin k call start ∷ rest) call start machine index view trace next at
           (subst (λ d. view_of (traced_of {M = M} mix env so_far).world d ≡ view) mine now) idle
-          (subst (λ d. machine_of env d view.local.batch call ≡ Some machine) mine is) (keeps mine (Begin k call ∷ rest) next);
+          (subst (λ d. machine_from env d view.local.batch call start ≡ Some machine) mine is) (keeps mine (Begin k call start ∷ rest) next);
       steps = λ so_far k did view trace made keeps mine rest all.
           let next = next_event so_far (Step k) rest all in
           step-keeps so_far rest (next ∙ ap (λ d. so_far ++ Step d ∷ rest) mine) did view trace

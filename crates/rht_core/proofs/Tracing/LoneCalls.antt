@@ -120,7 +120,7 @@ module _ (M : Type 0) (mix : ℕ → ℕ → ℕ → ℕ) (env : Env) (events : 
         ap (λ (w : World M). get_or w.core.words place 0) (step_none M mix (behind n) c none)
     step_own n (Some op) is first last plan = elim (cases_eq n past.begin) [
       | inl same ↦
-          let both : Some (Step c) ≡ Some (Begin c past.done.call) =
+          let both : Some (Step c) ≡ Some (Begin c past.done.call past_call.start) =
           sym is ∙ ap (slice_get events) same ∙ past_call.began in
           absurd (cc)
       | inr later ↦
@@ -145,7 +145,7 @@ module _ (M : Type 0) (mix : ℕ → ℕ → ℕ → ℕ) (env : Env) (events : 
         → get_or (world_step mix (behind n) event).core.words place 0 ≡ word place n
     event_leaves n Enroll is first last =
         applied-other (behind n).core.words (enrolling (behind n).core.env) place apart
-    event_leaves n (Begin d call) is first last = refl
+    event_leaves n (Begin d call start) is first last = refl
     event_leaves n (Step d) is first last = elim (cases_eq d c) [
       | inl same ↦
           subst (λ k. get_or (world_step mix (behind n) (Step k)).core.words place 0 ≡ word place n) (sym same)

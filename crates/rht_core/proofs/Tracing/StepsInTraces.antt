@@ -192,22 +192,22 @@ module _ (M : Type 0) (mix : ℕ → ℕ → ℕ → ℕ) (env : Env) where
     unchanged : (trace : Trace) → trace ≡ r.traces c → IsStepOf trace number did
     unchanged trace same = subst (λ (t : Trace). IsStepOf t number did) (sym same) stood
 
-    begin-later : (d : ℕ) (call : Call) (machine : Option (Doing M))
-        → beginning_in r.world.core d call ≡ machine
-        → IsStepOf (traces_after mix r (Begin d call) c) number did
-    begin-later d call None is = unchanged _ (ap (λ (t : ℕ → Trace). t c)
-        (trace_begin_none M mix r d call is))
-    begin-later d call (Some machine) is = elim (cases_eq c d) [
+    begin-later : (d : ℕ) (call : Call) (start : ℕ) (machine : Option (Doing M))
+        → beginning_in r.world.core d call start ≡ machine
+        → IsStepOf (traces_after mix r (Begin d call start) c) number did
+    begin-later d call start None is = unchanged _ (ap (λ (t : ℕ → Trace). t c)
+        (trace_begin_none M mix r d call start is))
+    begin-later d call start (Some machine) is = elim (cases_eq c d) [
       | inl same ↦
-          let can = beginning-some r.world.core.env r.world.core.enrolled r.world.core.locals d call
+          let can = beginning-some r.world.core.env r.world.core.enrolled r.world.core.locals d call start
           machine is in
           let idle = subst (λ k. is_idle (local_of r.world.core k) ≡ true) (sym same) can.idle in
-          let begun : traces_after mix r (Begin d call) c ≡ trace_begun r.count (r.traces c) =
-          subst (λ k. traces_after mix r (Begin d call) k ≡ trace_begun r.count (r.traces k)) (sym same)
-          (trace_begin_self M mix r d call machine is) in
+          let begun : traces_after mix r (Begin d call start) c ≡ trace_begun r.count (r.traces c) =
+          subst (λ k. traces_after mix r (Begin d call start) k ≡ trace_begun r.count (r.traces k)) (sym same)
+          (trace_begin_self M mix r d call start machine is) in
           subst (λ (t : Trace). IsStepOf t number did) (sym begun)
           (begun-in r.count (r.traces c) number did (idle-none events c admitted idle) stood)
-      | inr other ↦ unchanged _ (trace_begin_other M mix r d call c other)
+      | inr other ↦ unchanged _ (trace_begin_other M mix r d call start c other)
     ]
 
     step-later : (d : ℕ) (op : Option Op)
@@ -233,8 +233,8 @@ module _ (M : Type 0) (mix : ℕ → ℕ → ℕ → ℕ) (env : Env) where
     -- what stands in a call stands in it after any event
     later : (event : Event) → IsStepOf (traces_after mix r event c) number did
     later Enroll = stood
-    later (Begin d call) =
-        begin-later d call (beginning_in r.world.core d call) refl
+    later (Begin d call start) =
+        begin-later d call start (beginning_in r.world.core d call start) refl
     later (Step d) = step-later d (planned_in r.world.core d) refl
 
   -- ---- runs

@@ -25,7 +25,7 @@ use Rattle.rht_callers.specs.declared.local.Doing.{Doing}
 use Rattle.rht_callers.specs.declared.local.Doing.TheVariants.{Tidying}
 use Rattle.rht_callers.specs.Batches.{batch_room, batch_given, batch_after, nodes_left}
 use Rattle.rht_callers.proofs.BatchesOfCallers.{idle-batch}
-use Rattle.rht_callers.specs.Locals.{does_nothing, is_idle, machine_of, doing_next, doing_after, local_after, ending_of, IsDoingOf}
+use Rattle.rht_callers.specs.Locals.{does_nothing, is_idle, machine_from, doing_next, doing_after, local_after, ending_of, IsDoingOf}
 use Rattle.rht_callers.proofs.CallBeginnings.{begins_so}
 use Rattle.rht_core.specs.declared.event.Event.{Event}
 use Rattle.rht_core.specs.declared.event.Event.TheVariants.{Begin, Step}
@@ -90,19 +90,19 @@ module _ (M : Type 0) (mix : ℕ → ℕ → ℕ → ℕ) (env : Env) where
 
     -- ---- a call begins
 
-    begun-asked : (batch : Option BatchModel) (call : Call) (machine : Doing M) → machine_of env c batch call ≡ Some machine
+    begun-asked : (batch : Option BatchModel) (start : ℕ) (call : Call) (machine : Doing M) → machine_from env c batch call start ≡ Some machine
         → Some call ≡ Some Tidy → (m : TidyModel) × (machine ≡ Tidying m)
-    begun-asked batch =
-        begins_so M env c batch (λ call machine. Some call ≡ Some Tidy → (m : TidyModel) × (machine ≡ Tidying m))
+    begun-asked batch start =
+        begins_so M env c batch start (λ call machine. Some call ≡ Some Tidy → (m : TidyModel) × (machine ≡ Tidying m))
         (λ port is. absurd (cc)) (λ port owner once is. absurd (cc)) (λ port is. absurd (cc)) (λ port owner is. absurd (cc))
         (λ port owner new is. absurd (cc)) (λ is. absurd (cc)) (λ is. absurd (cc))
         (λ own has is. (tidy_new env.geometry own, refl)) (λ from limit is. absurd (cc))
 
-    begun-come : (batch : Option BatchModel) (call : Call) (machine : Doing M) → machine_of env c batch call ≡ Some machine
+    begun-come : (batch : Option BatchModel) (start : ℕ) (call : Call) (machine : Doing M) → machine_from env c batch call start ≡ Some machine
         → (m : TidyModel) → machine ≡ Tidying m
         → IsOn (batch_or env.geometry batch) m []
-    begun-come batch =
-        begins_so M env c batch
+    begun-come batch start =
+        begins_so M env c batch start
         (λ call machine. (m : TidyModel) → machine ≡ Tidying m → IsOn (batch_or env.geometry batch) m [])
         (λ port m is. absurd (cc)) (λ port owner once m is. absurd (cc)) (λ port m is. absurd (cc)) (λ port owner m is. absurd (cc))
         (λ port owner new m is. absurd (cc)) (λ m is. absurd (cc)) (λ m is. absurd (cc))
@@ -113,11 +113,11 @@ module _ (M : Type 0) (mix : ℕ → ℕ → ℕ → ℕ) (env : Env) where
         (tidy_begins env.geometry own, λ olds. refl)))
         (λ from limit m is. absurd (cc))
 
-    begin-keeps : (so_far rest : List Event) (call : Call) (machine : Doing M) (index : ℕ) (view : View M) (trace : Trace)
+    begin-keeps : (so_far rest : List Event) (call : Call) (start : ℕ) (machine : Doing M) (index : ℕ) (view : View M) (trace : Trace)
         → events ≡ so_far ++ rest → index ≡ length so_far → view_of (traced_of {M = M} mix env so_far).world c ≡ view
-        → is_idle view.local ≡ true → machine_of env c view.local.batch call ≡ Some machine → Keeps view trace
+        → is_idle view.local ≡ true → machine_from env c view.local.batch call start ≡ Some machine → Keeps view trace
         → Keeps (view_begun call machine view) (trace_begun index trace)
-    begin-keeps so_far rest call machine index view trace all at now idle is keeps =
+    begin-keeps so_far rest call start machine index view trace all at now idle is keeps =
         let run = ap (λ (w : World M). w.core) (world-traced_of M mix env so_far) in
         let stays = runs-in M mix env so_far in
         let here : local_of (run_of {M = M} mix env so_far).core c ≡ view.local =
@@ -127,11 +127,11 @@ module _ (M : Type 0) (mix : ℕ → ℕ → ℕ → ℕ) (env : Env) where
         ∙ ap (batch_or env.geometry) (idle-batch M (λ batch. batch_room view.local.doing view.local.batch ≡ batch) view.local idle refl) in
         record {
           past = keeps.past;
-          asked = begun-asked view.local.batch call machine is;
+          asked = begun-asked view.local.batch start call machine is;
           now = λ m tidies_now.
-              subst (λ b. IsOn b m []) (sym own) (begun-come view.local.batch call machine is m tidies_now);
+              subst (λ b. IsOn b m []) (sym own) (begun-come view.local.batch start call machine is m tidies_now);
           called = λ busy. (call, refl);
-          rested = λ idle_now i last place long. absurd (let busy = begun_busy M env c view.local.batch call machine is in cc);
+          rested = λ idle_now i last place long. absurd (let busy = begun_busy M env c view.local.batch start call machine is in cc);
         }
 
     -- ---- an operation
@@ -400,11 +400,11 @@ module _ (M : Type 0) (mix : ℕ → ℕ → ℕ → ℕ) (env : Env) where
         rested = λ idle_now i last place long. absurd (omega (arith, long));
       };
       stays = λ so_far event k view trace section keeps mine rest all. keeps mine (event ∷ rest) (next_event so_far event rest all);
-      begins = λ so_far k call machine index view trace at now idle is keeps mine rest all.
-          let next = next_event so_far (Begin k call) rest all in
-          begin-keeps so_far (Begin k call ∷ rest) call machine index view trace next at
+      begins = λ so_far k call start machine index view trace at now idle is keeps mine rest all.
+          let next = next_event so_far (Begin k call start) rest all in
+          begin-keeps so_far (Begin k call start ∷ rest) call start machine index view trace next at
           (subst (λ d. view_of (traced_of {M = M} mix env so_far).world d ≡ view) mine now) idle
-          (subst (λ d. machine_of env d view.local.batch call ≡ Some machine) mine is) (keeps mine (Begin k call ∷ rest) next);
+          (subst (λ d. machine_from env d view.local.batch call start ≡ Some machine) mine is) (keeps mine (Begin k call start ∷ rest) next);
       steps = λ so_far k did view trace made keeps mine rest all.
           let next = next_event so_far (Step k) rest all in
           step-keeps so_far rest (next ∙ ap (λ d. so_far ++ Step d ∷ rest) mine) did view trace

@@ -18,7 +18,7 @@ use Rattle.rht_core.specs.declared.event.Event.{Event}
 use Rattle.rht_core.specs.declared.event.Event.TheVariants.{Enroll, Begin, Step}
 use Rattle.rht_callers.specs.declared.local.Local.{Local}
 use Rattle.rht_callers.specs.declared.local.Doing.{Doing}
-use Rattle.rht_callers.specs.Locals.{fresh, is_idle, machine_of, plan_of, local_after, ending_of, IsLocalOf}
+use Rattle.rht_callers.specs.Locals.{fresh, is_idle, machine_from, plan_of, local_after, ending_of, IsLocalOf}
 use Rattle.rht_core.specs.Runs.{Core, World, View, IsAdmitted, IsAdmittedEvent, view_of, local_of, new_book, beginning_in, planned_in, with_step, core_step, world_step, run_of}
 use Rattle.rht_core.specs.Traces.{Did, Trace, Traced, trace_begun, trace_did, traces_after, traced_step, traced_of}
 use Rattle.rht_core.specs.Laws.{IsRecorded, view_begun, view_stepped}
@@ -164,12 +164,12 @@ module _ (M : Type 0) (mix : ℕ → ℕ → ℕ → ℕ) (env : Env) where
           → IsAdmitted events → IsAdmittedEvent event
           → IsOthers env mix M (R events).world.core event c → view ≡ view_of (R events).world c → P events c view trace
           → P (events ++ event ∷ []) c view trace
-      pub begins : (events : List Event) (c : ℕ) (call : Call) (machine : Doing M) (index : ℕ)
+      pub begins : (events : List Event) (c : ℕ) (call : Call) (start : ℕ) (machine : Doing M) (index : ℕ)
           (view : View M) (trace : Trace)
           → index ≡ length events → view_of (R events).world c ≡ view
-          → is_idle view.local ≡ true → machine_of env c view.local.batch call ≡ Some machine
+          → is_idle view.local ≡ true → machine_from env c view.local.batch call start ≡ Some machine
           → P events c view trace
-          → P (events ++ Begin c call ∷ []) c (view_begun call machine view) (trace_begun index trace)
+          → P (events ++ Begin c call start ∷ []) c (view_begun call machine view) (trace_begun index trace)
       pub steps : (events : List Event) (c : ℕ) (did : Did) (view : View M) (trace : Trace)
           → IsMade events c view.local did
           → P events c view trace
@@ -201,33 +201,33 @@ module _ (M : Type 0) (mix : ℕ → ℕ → ℕ → ℕ) (env : Env) where
           put (events ++ event ∷ []) k (view_of r.world k) here trace (r.traces k) seen_is trace_is
           (kept.stays events event k (view_of r.world k) (r.traces k) admitted may others refl (each k))
 
-      begins : (c : ℕ) (call : Call) (machine : Option (Doing M)) → IsAdmittedEvent (Begin c call)
-          → beginning_in r.world.core c call ≡ machine
-          → AllKeep (events ++ Begin c call ∷ []) (traced_step mix r (Begin c call))
-      begins c call None may is k =
-          stay (Begin c call) may k _ _ tt (ap (λ (v : World M). view_of v k) (begin_none M mix r.world c call is))
-          (ap (λ (t : ℕ → Trace). t k) (trace_begin_none M mix r c call is))
-      begins c call (Some machine) may is k =
-          let more = events ++ Begin c call ∷ [] in
-          let can = beginning-some r.world.core.env r.world.core.enrolled r.world.core.locals c call
+      begins : (c : ℕ) (call : Call) (start : ℕ) (machine : Option (Doing M)) → IsAdmittedEvent (Begin c call start)
+          → beginning_in r.world.core c call start ≡ machine
+          → AllKeep (events ++ Begin c call start ∷ []) (traced_step mix r (Begin c call start))
+      begins c call start None may is k =
+          stay (Begin c call start) may k _ _ tt (ap (λ (v : World M). view_of v k) (begin_none M mix r.world c call start is))
+          (ap (λ (t : ℕ → Trace). t k) (trace_begin_none M mix r c call start is))
+      begins c call start (Some machine) may is k =
+          let more = events ++ Begin c call start ∷ [] in
+          let can = beginning-some r.world.core.env r.world.core.enrolled r.world.core.locals c call start
           machine is in
-          let made = made_in M mix env r.world.core c call machine (stays_in events) can in
+          let made = made_in M mix env r.world.core c call start machine (stays_in events) can in
           let place = has_place M mix env r.world.core c (stays_in events) can.below in
           elim (cases_eq k c) [
             | inl same ↦
                 subst
-                (λ j. P more j (view_of (world_step mix r.world (Begin c call)) j)
-                (traces_after mix r (Begin c call) j))
+                (λ j. P more j (view_of (world_step mix r.world (Begin c call start)) j)
+                (traces_after mix r (Begin c call start) j))
                 (sym same)
                 (put more c (view_begun call machine (view_of r.world c)) _ _
                 (trace_begun r.count (r.traces c))
-                (begin_self M mix r.world c call machine is place)
-                (trace_begin_self M mix r c call machine is)
-                (kept.begins events c call machine r.count (view_of r.world c) (r.traces c)
+                (begin_self M mix r.world c call start machine is place)
+                (trace_begin_self M mix r c call start machine is)
+                (kept.begins events c call start machine r.count (view_of r.world c) (r.traces c)
                 (count-traced_of M mix env events) refl can.idle made (each c)))
             | inr other ↦
-                stay (Begin c call) may k _ _ tt (begin_other M mix r.world c call k other)
-                (trace_begin_other M mix r c call k other)
+                stay (Begin c call start) may k _ _ tt (begin_other M mix r.world c call start k other)
+                (trace_begin_other M mix r c call start k other)
           ]
 
       steps : (c : ℕ) (op : Option Op) → IsAdmittedEvent (Step c) → planned_by c r.world ≡ op
@@ -256,8 +256,8 @@ module _ (M : Type 0) (mix : ℕ → ℕ → ℕ → ℕ) (env : Env) where
       -- an event keeps it of every caller
       event_keeps : (event : Event) → IsAdmittedEvent event → AllKeep (events ++ event ∷ []) (traced_step mix r event)
       event_keeps Enroll may k = stay Enroll may k _ _ tt refl refl
-      event_keeps (Begin c call) may k =
-          begins c call (beginning_in r.world.core c call) may refl k
+      event_keeps (Begin c call start) may k =
+          begins c call start (beginning_in r.world.core c call start) may refl k
       event_keeps (Step c) may k = steps c (planned_by c r.world) may refl k
 
     -- so it holds of every caller in every run
@@ -280,12 +280,12 @@ module _ (M : Type 0) (mix : ℕ → ℕ → ℕ → ℕ) (env : Env) where
       pub opens : (c : ℕ) → P [] c (record { local = fresh env; book = new_book }) no_trace
       pub stays : (events : List Event) (event : Event) (c : ℕ) (view : View M) (trace : Trace)
           → SectionStays events event c → P events c view trace → P (events ++ event ∷ []) c view trace
-      pub begins : (events : List Event) (c : ℕ) (call : Call) (machine : Doing M) (index : ℕ)
+      pub begins : (events : List Event) (c : ℕ) (call : Call) (start : ℕ) (machine : Doing M) (index : ℕ)
           (view : View M) (trace : Trace)
           → index ≡ length events → view_of (R events).world c ≡ view
-          → is_idle view.local ≡ true → machine_of env c view.local.batch call ≡ Some machine
+          → is_idle view.local ≡ true → machine_from env c view.local.batch call start ≡ Some machine
           → P events c view trace
-          → P (events ++ Begin c call ∷ []) c (view_begun call machine view) (trace_begun index trace)
+          → P (events ++ Begin c call start ∷ []) c (view_begun call machine view) (trace_begun index trace)
       pub steps : (events : List Event) (c : ℕ) (did : Did) (view : View M) (trace : Trace)
           → IsMade events c view.local did
           → P events c view trace

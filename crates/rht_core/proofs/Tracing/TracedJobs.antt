@@ -28,7 +28,7 @@ use Rattle.rht_core.specs.declared.event.Event.TheVariants.{Begin, Step as Steps
 use Rattle.rht_core.specs.declared.book.Book.{Book}
 use Rattle.rht_callers.specs.declared.local.Local.{Local}
 use Rattle.rht_callers.specs.declared.local.Doing.{Doing}
-use Rattle.rht_callers.specs.Locals.{is_idle, machine_of, local_after, ending_of}
+use Rattle.rht_callers.specs.Locals.{is_idle, machine_from, local_after, ending_of}
 use Rattle.rht_core.specs.Jobs.{Job, call_of, job_plan, job_after, job_of, told, IsFirstJob}
 use Rattle.rht_core.specs.Runs.{Core, World, View, planned_in, local_of, IsAdmitted, IsAdmittedEvent, view_of, run_of, world_step, book_begun, book_after, finished_with}
 use Rattle.rht_core.specs.Traces.{Did, Past, Trace, Traced, trace_begun, trace_did, traced_of}
@@ -254,12 +254,12 @@ module _ (M : Type 0) (mix : ℕ → ℕ → ℕ → ℕ) (env : Env) (Now : Job
     -- ---- the beginning of a call
 
     module _ (events : List Event) (own : ℕ) where
-      begins-keeping : ((call : Call) (job : Job) → IsFirstJob env call job → Now job []) → (c : ℕ) (call : Call) (machine : Doing M) (index : ℕ)
+      begins-keeping : ((call : Call) (job : Job) → IsFirstJob env call job → Now job []) → (c : ℕ) (call : Call) (start : ℕ) (machine : Doing M) (index : ℕ)
           (here : View M) (trace : Trace)
-          → machine_of env c here.local.batch call ≡ Some machine → AllByRecursion IsEndedSo trace.past → HasLists here.local here.book
+          → machine_from env c here.local.batch call start ≡ Some machine → AllByRecursion IsEndedSo trace.past → HasLists here.local here.book
           → IsKeeping (view_begun call machine here) (trace_begun index trace)
-      begins-keeping begins c call machine index here trace is past lists =
-          let first = first_job-machine env c here.local.batch call machine is in
+      begins-keeping begins c call start machine index here trace is past lists =
+          let first = first_job-machine env c here.local.batch start call machine is in
           let busy = nothing-job machine ∙ ap is_no_job first.does in
           record {
             past = past;
@@ -598,13 +598,13 @@ module _ (M : Type 0) (mix : ℕ → ℕ → ℕ → ℕ) (env : Env) (NowAt : �
                   (kept.1 few)),
               gives-beside M mix env (NowAt 0) Ended events own past event c here trace.steps before others seen kept.2,
             );
-        begins = λ past c call machine index here trace now same idle is keeping mine rest all.
-            let kept = (keeping mine (Begin c call ∷ rest) (next_event M mix env (NowAt 0) Ended events own past (Begin c call) rest all)).0 in
-            let n = length (past ++ Begin c call ∷ []) in (
-              begins-keeping M mix env (NowAt n) Ended events own (keep.begins n) c call machine index here trace is kept.past kept.lists,
+        begins = λ past c call start machine index here trace now same idle is keeping mine rest all.
+            let kept = (keeping mine (Begin c call start ∷ rest) (next_event M mix env (NowAt 0) Ended events own past (Begin c call start) rest all)).0 in
+            let n = length (past ++ Begin c call start ∷ []) in (
+              begins-keeping M mix env (NowAt n) Ended events own (keep.begins n) c call start machine index here trace is kept.past kept.lists,
               λ few. unturned-none env.geometry (words_before M mix env events) c n,
-              let first = first_job-machine env c here.local.batch call machine is in
-                  let more = past ++ Begin c call ∷ [] in
+              let first = first_job-machine env c here.local.batch start call machine is in
+                  let more = past ++ Begin c call start ∷ [] in
                   subst (λ j. gives_at more j []) (sym first.does)
                   (keeps_first env mix M (words_before M mix env events) more [] call first.job first.first),
             );

@@ -56,13 +56,13 @@ module _ (M : Type 0) (mix : ℕ → ℕ → ℕ → ℕ) where
 -- ---- what an event does to a trace
 
 module _ (M : Type 0) (mix : ℕ → ℕ → ℕ → ℕ) (r : Traced M) (c : ℕ) where
-  module _ (call : Call) where
-    pub trace_begin_none : beginning_in r.world.core c call ≡ None
-        → traces_after mix r (Begin c call) ≡ r.traces
+  module _ (call : Call) (start : ℕ) where
+    pub trace_begin_none : beginning_in r.world.core c call start ≡ None
+        → traces_after mix r (Begin c call start) ≡ r.traces
     trace_begin_none is = ap (traces_begun r c) is
 
-    pub trace_begin_self : (machine : Doing M) → beginning_in r.world.core c call ≡ Some machine
-        → traces_after mix r (Begin c call) c ≡ trace_begun r.count (r.traces c)
+    pub trace_begin_self : (machine : Doing M) → beginning_in r.world.core c call start ≡ Some machine
+        → traces_after mix r (Begin c call start) c ≡ trace_begun r.count (r.traces c)
     trace_begin_self machine is =
         ap (λ o. traces_begun r c o c) is ∙ changed-same r.traces c (trace_begun r.count (r.traces c))
 
@@ -70,8 +70,8 @@ module _ (M : Type 0) (mix : ℕ → ℕ → ℕ → ℕ) (r : Traced M) (c : �
     begun_other k other None = refl
     begun_other k other (Some machine) = changed-other r.traces c (trace_begun r.count (r.traces c)) k other
 
-    pub trace_begin_other : (k : ℕ) → k ≢ c → traces_after mix r (Begin c call) k ≡ r.traces k
-    trace_begin_other k other = begun_other k other (beginning_in r.world.core c call)
+    pub trace_begin_other : (k : ℕ) → k ≢ c → traces_after mix r (Begin c call start) k ≡ r.traces k
+    trace_begin_other k other = begun_other k other (beginning_in r.world.core c call start)
 
   -- the traces after a caller has performed this
   abbrev traces_with : Option Op → ℕ → Trace

@@ -105,7 +105,8 @@ module _ (M : Type 0) (mix : ℕ → ℕ → ℕ → ℕ) (env : Env) where
 
     past-more : (c : ℕ) (past : Past) → IsPastCall M mix env events c past → IsPastCall M mix env more c past
     past-more c past is = record {
-      began = slice_get-push events event past.begin (Begin c past.done.call) is.began;
+      start = is.start;
+      began = slice_get-push events event past.begin (Begin c past.done.call is.start) is.began;
       answered = answered-more c past is.answered is.steps;
       steps = AllByRecursion-weaker _ _ (recorded-more c) past.steps is.steps;
     }
@@ -114,7 +115,8 @@ module _ (M : Type 0) (mix : ℕ → ℕ → ℕ → ℕ) (env : Env) where
         → IsUnderWay more c trace call
     under_way-more c trace call way = record {
       is = record {
-        began = slice_get-push events event trace.begin (Begin c call) way.is.began;
+        start = way.is.start;
+        began = slice_get-push events event trace.begin (Begin c call way.is.start) way.is.began;
         behind = way.is.behind;
         rising = way.is.rising;
       };
@@ -132,13 +134,13 @@ module _ (M : Type 0) (mix : ℕ → ℕ → ℕ → ℕ) (env : Env) where
     }
 
   -- a call begins at the last event
-  begin-holds : (events : List Event) (c : ℕ) (call : Call) (before : Option Call) (trace : Trace) (index : ℕ)
+  begin-holds : (events : List Event) (c : ℕ) (call : Call) (start : ℕ) (before : Option Call) (trace : Trace) (index : ℕ)
       → index ≡ length events
       → Holds events c before trace
-      → Holds (events ++ Begin c call ∷ []) c (Some call) (trace_begun index trace)
-  begin-holds events c call before trace index is holds =
-      let kept = holds-more events (Begin c call) c before trace holds in
-      let longer = length_push events (Begin c call) in
+      → Holds (events ++ Begin c call start ∷ []) c (Some call) (trace_begun index trace)
+  begin-holds events c call start before trace index is holds =
+      let kept = holds-more events (Begin c call start) c before trace holds in
+      let longer = length_push events (Begin c call start) in
       record {
         past = kept.past;
         in_order = kept.in_order;
@@ -146,8 +148,9 @@ module _ (M : Type 0) (mix : ℕ → ℕ → ℕ → ℕ) (env : Env) where
         steps = tt;
         progress = record {
           is = record {
-            began = ap (slice_get (events ++ Begin c call ∷ [])) is
-                ∙ slice_get-push_last events (Begin c call);
+            start = start;
+            began = ap (slice_get (events ++ Begin c call start ∷ [])) is
+                ∙ slice_get-push_last events (Begin c call start);
             behind = let ends = holds.past_ends in omega arith;
             rising = tt;
           };
@@ -171,6 +174,7 @@ module _ (M : Type 0) (mix : ℕ → ℕ → ℕ → ℕ) (env : Env) where
       let ends = way.ends in
       record {
         is = record {
+          start = kept.is.start;
           began = kept.is.began;
           behind = kept.is.behind;
           rising = IsRising-push (trace.begin + 1) trace.steps did way.is.rising (omega arith);
@@ -227,6 +231,7 @@ module _ (M : Type 0) (mix : ℕ → ℕ → ℕ → ℕ) (env : Env) where
         past =
             AllByRecursion-push _ trace.past ended kept.past
             record {
+              start = went.is.start;
               began = went.is.began;
               steps = AllByRecursion-push _ trace.steps did kept.steps recorded;
               answered = record { before = trace.steps; last = did; steps_are = refl; reply = gives };
@@ -245,7 +250,7 @@ module _ (M : Type 0) (mix : ℕ → ℕ → ℕ → ℕ) (env : Env) where
         opens = λ c. record { past = tt; in_order = tt; past_ends = omega arith; steps = tt; progress = tt };
         stays = λ events event c here trace section holds. holds-more events event c here.book.call trace holds;
         begins =
-            λ events c call machine index here trace now same idle made holds. begin-holds events c call
+            λ events c call start machine index here trace now same idle made holds. begin-holds events c call start
             here.book.call trace index now holds;
         steps = λ events c did here trace made holds.
             let next = local_after mix here.local did.old in

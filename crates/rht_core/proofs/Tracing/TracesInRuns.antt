@@ -52,7 +52,7 @@ traces_of_books M mix env =
     record {
       opens = λ c. record { past = refl; steps = refl };
       stays = λ past event c here trace section of. of;
-      begins = λ past c call machine index here trace now same idle made of. begun-of index call here.book
+      begins = λ past c call start machine index here trace now same idle made of. begun-of index call here.book
           trace of;
       steps = λ past c did here trace made of.
           let next = local_after mix here.local did.old in

@@ -149,10 +149,10 @@ module _ (mix : ℕ → ℕ → ℕ → ℕ) (env : Env) (c : ℕ) where
   other-ended (Walk from limit) ending steps other = absurd (cc)
   other-ended _ ending steps other = tt
 
-  first-now : (call : Call) (batch : Option BatchModel) → IfSome (first_job env batch call) (λ job. Now job [])
-  first-now (Walk from limit) batch = λ olds. refl
-  first-now Tidy batch = first_tidy-so (λ job. Now job []) batch (λ own. tt)
-  first-now _ batch = tt
+  first-now : (call : Call) (batch : Option BatchModel) (start : ℕ) → IfSome (first_job env batch call start) (λ job. Now job [])
+  first-now (Walk from limit) batch start = λ olds. refl
+  first-now Tidy batch start = first_tidy-so (λ job. Now job []) batch (λ own. tt)
+  first-now _ batch start = tt
 
   leads : (L : Type 0) (job : Job) (steps : List Did) (did : Did) (performs : Performs mix env job did) → performs.caller ≡ c
       → Now job steps → LeadsOn L mix env Now Ended job (steps ++ did ∷ []) (job_after mix env job did.old)

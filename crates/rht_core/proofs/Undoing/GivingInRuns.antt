@@ -173,10 +173,10 @@ module _ (env : Env) (mix : ℕ → ℕ → ℕ → ℕ) where
     KeepsInStage past Behind steps = Unit {0}
 
     -- a call begins at the lock, or behind it
-    first_stage : (past : List Event) (steps : List Did) (call : Call) (batch : Option BatchModel)
-        → IfSome (first_job env batch call) (λ job. KeepsInStage past (stage_of job) steps)
-    first_stage past steps Tidy batch = first_tidy-so (λ job. KeepsInStage past (stage_of job) steps) batch (λ own. tt)
-    first_stage past steps _ batch = tt
+    first_stage : (past : List Event) (steps : List Did) (call : Call) (batch : Option BatchModel) (start : ℕ)
+        → IfSome (first_job env batch call start) (λ job. KeepsInStage past (stage_of job) steps)
+    first_stage past steps Tidy batch start = first_tidy-so (λ job. KeepsInStage past (stage_of job) steps) batch (λ own. tt)
+    first_stage past steps _ batch start = tt
 
     pub keeps_first : (past : List Event) (steps : List Did) (call : Call) (job : Job) → IsFirstJob env call job
         → KeepsInStage past (stage_of job) steps

@@ -437,10 +437,10 @@ module _ (M : Type 0) (mix : ℕ → ℕ → ℕ → ℕ) (env : Env) (events : 
   none_turned : (call : Call) → Turned call held.holds_nothing []
   none_turned call place at = inr (inl refl)
 
-  first-turned : (call : Call) (batch : Option BatchModel) → IfSome (first_job env batch call) (λ job. TurnedInStage (stage_of job) job [])
-  first-turned Tidy batch = first_tidy-so (λ job. TurnedInStage (stage_of job) job []) batch (λ own. none_turned Tidy)
-  first-turned Work batch = tt
-  first-turned call batch = none_turned call
+  first-turned : (call : Call) (batch : Option BatchModel) (start : ℕ) → IfSome (first_job env batch call start) (λ job. TurnedInStage (stage_of job) job [])
+  first-turned Tidy batch start = first_tidy-so (λ job. TurnedInStage (stage_of job) job []) batch (λ own. none_turned Tidy)
+  first-turned Work batch start = tt
+  first-turned call batch start = none_turned call
 
   begins : (call : Call) (job : Job) → IsFirstJob env call job → HasTurned job []
   begins call job is = record {

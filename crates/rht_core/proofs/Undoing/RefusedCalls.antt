@@ -519,14 +519,14 @@ module _ (M : Type 0) (mix : ℕ → ℕ → ℕ → ℕ) (env : Env) (events : 
       by_case true past = past-leads (steps ++ did ∷ []) job did performs past
       by_case false may = leads_on job steps did may kept performs own here giving came
 
-  first-stored : (call : Call) (batch : Option BatchModel) → IfSome (first_job env batch call) (λ job. JobStored env job [])
-  first-stored Tidy batch = first_tidy-so (λ job. JobStored env job []) batch (λ own. tt)
-  first-stored _ batch = tt
+  first-stored : (call : Call) (batch : Option BatchModel) (start : ℕ) → IfSome (first_job env batch call start) (λ job. JobStored env job [])
+  first-stored Tidy batch start = first_tidy-so (λ job. JobStored env job []) batch (λ own. tt)
+  first-stored _ batch start = tt
 
-  first-undoes : (call : Call) (batch : Option BatchModel) → IfSome (first_job env batch call) (λ job. UndoesInStage (stage_of job) job [])
-  first-undoes Tidy batch = first_tidy-so (λ job. UndoesInStage (stage_of job) job []) batch (λ own. nothing_undone Tidy)
-  first-undoes Work batch = refl
-  first-undoes call batch = nothing_undone call
+  first-undoes : (call : Call) (batch : Option BatchModel) (start : ℕ) → IfSome (first_job env batch call start) (λ job. UndoesInStage (stage_of job) job [])
+  first-undoes Tidy batch start = first_tidy-so (λ job. UndoesInStage (stage_of job) job []) batch (λ own. nothing_undone Tidy)
+  first-undoes Work batch start = refl
+  first-undoes call batch start = nothing_undone call
 
   -- at first nothing is held, and nothing was turned
   pub begins : (call : Call) (job : Job) → IsFirstJob env call job → Going job []

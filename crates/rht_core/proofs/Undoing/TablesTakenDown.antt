@@ -153,8 +153,8 @@ module _ (env : Env) (mix : ℕ → ℕ → ℕ → ℕ) where
     -- so each event leaves the table
     pub event_then : (event : Event) → TakesNone L core c event → IsAsThen W loaded (kept env mix L core G event all inv).ghost slot
     event_then Enroll none = subst (λ x. IsAsThen W loaded x slot) (sym (kept env mix L core G Enroll all inv).ghost_kept) then
-    event_then (Begin d call) none =
-        subst (λ x. IsAsThen W loaded x slot) (sym (kept env mix L core G (Begin d call) all inv).ghost_kept) then
+    event_then (Begin d call start) none =
+        subst (λ x. IsAsThen W loaded x slot) (sym (kept env mix L core G (Begin d call start) all inv).ghost_kept) then
     event_then (Step d) none = go (planned_in core d) refl
       where
         go : (plan : Option Op) → planned_in core d ≡ plan → IsAsThen W loaded (kept env mix L core G (Step d) all inv).ghost slot

@@ -316,11 +316,11 @@ module _ (L : Type 0) (mix : ℕ → ℕ → ℕ → ℕ) (env : Env) (events : 
 
   -- ---- a call begins
 
-  pub first_walks : (c : ℕ) → c < env.geometry.callers → (call : Call) (batch : Option BatchModel)
-      → IfSome (first_job env batch call) (λ job.
+  pub first_walks : (c : ℕ) → c < env.geometry.callers → (call : Call) (batch : Option BatchModel) (start : ℕ)
+      → IfSome (first_job env batch call start) (λ job.
       JobWalks L mix env all_events (world_step mix (R L mix env events).world event).core placed_then counts (turn.then c) c here []
       (Some job))
-  first_walks c low (calls.Walk from limit) batch = record {
+  first_walks c low (calls.Walk from limit) batch start = record {
     low = low;
     begun = omega (arith, long);
     roomy = refl;
@@ -328,8 +328,8 @@ module _ (L : Type 0) (mix : ℕ → ℕ → ℕ → ℕ) (env : Env) (events : 
     keeps = record { none = refl; nothing = refl };
     bound = tt;
   }
-  first_walks c low calls.Tidy batch =
+  first_walks c low calls.Tidy batch start =
       first_tidy-so (λ job. JobWalks L mix env all_events (world_step mix (R L mix env events).world event).core placed_then counts
       (turn.then c) c
       here [] (Some job)) batch (λ own. tt)
-  first_walks c low _ batch = tt
+  first_walks c low _ batch start = tt

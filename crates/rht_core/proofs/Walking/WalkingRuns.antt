@@ -69,31 +69,31 @@ module _ (L : Type 0) (mix : ℕ → ℕ → ℕ → ℕ) (env : Env) where
               refl had.now;
         })
 
-  begin-walks : (events : List Event) (c : ℕ) (call : Call) (machine : Option (Doing L)) (walking : AreWalking L mix env events (Rs events))
-      → (turn : Turns L mix env events (Begin c call) walking.looking)
-      → beginning_in (Rs events).world.core c call ≡ machine → EachWalks events (Begin c call) walking turn
-  begin-walks events c call None walking turn is = λ d.
+  begin-walks : (events : List Event) (c : ℕ) (call : Call) (start : ℕ) (machine : Option (Doing L)) (walking : AreWalking L mix env events (Rs events))
+      → (turn : Turns L mix env events (Begin c call start) walking.looking)
+      → beginning_in (Rs events).world.core c call start ≡ machine → EachWalks events (Begin c call start) walking turn
+  begin-walks events c call start None walking turn is = λ d.
       let r = Rs events in
-      as_before events (Begin c call) walking turn d
-      (ap (λ (w : World L). job_of (local_of w.core d).doing) (begin_none L mix r.world c call is))
-      (ap (λ (t : ℕ → Trace). t d) (trace_begin_none L mix r c call is))
-  begin-walks events c call (Some machine) walking turn is = λ d.
+      as_before events (Begin c call start) walking turn d
+      (ap (λ (w : World L). job_of (local_of w.core d).doing) (begin_none L mix r.world c call start is))
+      (ap (λ (t : ℕ → Trace). t d) (trace_begin_none L mix r c call start is))
+  begin-walks events c call start (Some machine) walking turn is = λ d.
       let r = Rs events in
-      let event = Begin c call in
+      let event = Begin c call start in
       let sound = walking.looking.placed.all in
-      let can = beginning-some r.world.core.env r.world.core.enrolled r.world.core.locals c call machine is in
+      let can = beginning-some r.world.core.env r.world.core.enrolled r.world.core.locals c call start machine is in
       let place = has_place L mix env r.world.core c sound.stays can.below in
       let low : c < env.geometry.callers = omega (arith, can.below, sound.stays.few_enrolled) in
-      let first = first_job-machine env c (local_of r.world.core c).batch call machine
-      (made_in L mix env r.world.core c call machine sound.stays can) in
+      let first = first_job-machine env c (local_of r.world.core c).batch start call machine
+      (made_in L mix env r.world.core c call start machine sound.stays can) in
       elim (cases_eq d c) [
         | inl same ↦
             subst (λ k. Then events event walking turn k (traces_after mix r event k)
             (job_of (local_of (world_step mix r.world event).core k).doing)) (sym same)
             (found_with events event walking turn c (trace_begun (length events) (r.traces c)) _ (Some first.job) _
-            (trace_begin_self L mix r c call machine is
+            (trace_begin_self L mix r c call start machine is
             ∙ ap (λ n. trace_begun n (r.traces c)) (count-traced_of L mix env events))
-            (ap (λ (s : View L). job_of s.local.doing) (begin_self L mix r.world c call machine is place) ∙ first.does)
+            (ap (λ (s : View L). job_of s.local.doing) (begin_self L mix r.world c call start machine is place) ∙ first.does)
             (record {
               past = pasts_later L mix env events event walking.looking turn walking.of_ports walking.count walking.counted _
                   (walking.walks c).past;
@@ -106,8 +106,8 @@ module _ (L : Type 0) (mix : ℕ → ℕ → ℕ → ℕ) (env : Env) where
             }))
         | inr other ↦
             as_before events event walking turn d
-            (ap (λ (s : View L). job_of s.local.doing) (begin_other L mix r.world c call d other))
-            (trace_begin_other L mix r c call d other)
+            (ap (λ (s : View L). job_of s.local.doing) (begin_other L mix r.world c call start d other))
+            (trace_begin_other L mix r c call start d other)
       ]
 
   step-walks : (events : List Event) (c : ℕ) (plan : Option Op) → IsAdmitted events
@@ -186,7 +186,7 @@ module _ (L : Type 0) (mix : ℕ → ℕ → ℕ → ℕ) (env : Env) where
     where
       each : (event : Event) → (turn : Turns L mix env events event walking.looking) → EachWalks events event walking turn
       each Enroll turn = λ d. as_before events Enroll walking turn d refl refl
-      each (Begin c call) turn = begin-walks events c call (beginning_in (Rs events).world.core c call) walking turn refl
+      each (Begin c call start) turn = begin-walks events c call start (beginning_in (Rs events).world.core c call start) walking turn refl
       each (Step c) turn = step-walks events c (planned_in (Rs events).world.core c) admitted walking turn refl
 
   opening-walks : AreWalking L mix env [] (Rs [])

@@ -67,6 +67,7 @@ impl Told {
             Told::Begin { caller, asked } => Event::Begin {
                 caller,
                 call: asked.call(),
+                start: 0,
             },
             Told::Step { caller } => Event::Step { caller },
         }

@@ -14,7 +14,7 @@ use Rattle.rht_words.specs.Operations.{old_of, applied}
 use Rattle.rht_words.specs.Places.{Node, NodeWord, ChainLink, KeyWord, OwnerWord, ListLink, NodeMap, map_words, place_of, words_in}
 use Rattle.rht_words.proofs.BitChanges.{bit_at-cleared, bit_at-cleared_other}
 use Rattle.rht_words.proofs.Memory.{Memory, IsWrite, is_write}
-use Rattle.rht_arena.specs.TakeNode.{TakeNodeModel, take_node_plan, take_node_after, next_word, claim_in, claim_among, IsTakeAtIn, IsTakeIn}
+use Rattle.rht_arena.specs.TakeNode.{TakeNodeModel, take_node_plan, take_node_after, word_behind, next_word, claim_in, claim_among, IsTakeAtIn, IsTakeIn}
 use Rattle.rht_arena.specs.declared.take_node.TakeNodeAt.{TakeNodeAt}
 use Rattle.rht_arena.specs.declared.take_node.TakeNodeAt.TheVariants as takes
 use Rattle.rht_arena.specs.NewNode.{NewNodeModel, new_node_plan, new_node_after, new_node_after_at, node_of_new, node_taken, IsNewNodeIn}
@@ -84,9 +84,9 @@ module _ (take : TakeNodeModel) (So : TakeNodeModel × Next (Option ℕ) → Typ
     (goes : (at : TakeNodeAt) → So (record take { at = at }, Go)) (ends : So (take, Done None)) where
   next_so : (index : ℕ) → So (next_word take index)
   next_so index =
-      by_test (λ t. So (cond t (record take { at = takes.MapWord (index + 1) }, Go) (take, Done None)))
-      (nat_lt (index + 1) (map_words take.geometry.nodes))
-      (λ t. goes (takes.MapWord (index + 1))) (λ t. ends)
+      let next = word_behind take.geometry index in
+      by_test (λ t. So (cond t (take, Done None) (record take { at = takes.MapWord next }, Go)))
+      (next == take.start) (λ t. ends) (λ t. goes (takes.MapWord next))
 
   claim_so : (index word : ℕ) → So (claim_among take index word)
   claim_so index word =
@@ -298,17 +298,17 @@ module _ (env : Env) (mix : ℕ → ℕ → ℕ → ℕ) (c : ℕ) (h : Holding)
         (knowing (taken_by r) (known_taken r))
 
     -- of a taking in this table, state by state
-    take_step_at : (at : TakeNodeAt) → IsTakeAtIn env.geometry at → knowing None None M G
-        → let take : TakeNodeModel = record { geometry = env.geometry; at = at } in
+    take_step_at : (start : ℕ) (at : TakeNodeAt) → IsTakeAtIn env.geometry at → knowing None None M G
+        → let take : TakeNodeModel = record { geometry = env.geometry; start = start; at = at } in
         TakeMoved (take_node_plan take) (take_node_after take (old_of words (take_node_plan take)))
-    take_step_at (takes.MapWord index) range knows =
-        let take : TakeNodeModel = record { geometry = env.geometry; at = takes.MapWord index } in
+    take_step_at start (takes.MapWord index) range knows =
+        let take : TakeNodeModel = record { geometry = env.geometry; start = start; at = takes.MapWord index } in
         let op = take_node_plan take in
         let step = loads env mix c words G op (holding None) (holding None) (knowing None None) whole
         refl refl knows in
         claim_so take (TakeMoved op) (λ at. step) step index (old_of words op)
-    take_step_at (takes.Claim index bit) range knows =
-        let take : TakeNodeModel = record { geometry = env.geometry; at = takes.Claim index bit } in
+    take_step_at start (takes.Claim index bit) range knows =
+        let take : TakeNodeModel = record { geometry = env.geometry; start = start; at = takes.Claim index bit } in
         let op = take_node_plan take in
         let word = old_of words op in
         by_test (λ t. (bit_at word bit == 1) ≡ t → TakeMoved op
@@ -324,9 +324,9 @@ module _ (env : Env) (mix : ℕ → ℕ → ℕ → ℕ) (c : ℕ) (h : Holding)
     pub take_step : (take : TakeNodeModel) → IsTakeIn env.geometry take → knowing None None M G
         → TakeMoved (take_node_plan take) (take_node_after take (old_of words (take_node_plan take)))
     take_step take is knows =
-        subst (λ g. let here : TakeNodeModel = record { geometry = g; at = take.at } in TakeMoved
+        subst (λ g. let here : TakeNodeModel = record { geometry = g; start = take.start; at = take.at } in TakeMoved
         (take_node_plan here) (take_node_after here (old_of words (take_node_plan here))))
-        (sym is.geometry_same) (take_step_at take.at is.at_in knows)
+        (sym is.geometry_same) (take_step_at take.start take.at is.at_in knows)
 
     -- ---- a node is given back
 

@@ -92,7 +92,11 @@ impl<M: Mix> Player<M> {
             return;
         }
         if let Some(call) = self.take(commands, caller) {
-            self.state.step(Event::Begin { caller, call });
+            self.state.step(Event::Begin {
+                caller,
+                call,
+                start: 0,
+            });
         }
     }
 

@@ -1,0 +1,42 @@
+-- In which order the words of the node map are looked at, and that each is at most once.
+use Rattle.std.specs.Prelude.{◌≡◌, ℕ, ◌+◌, ◌-◌, ◌<◌, ◌≤◌, nat_lt, None, List, [], ◌∷◌, if◌then◌else◌}
+use Rattle.rht_words.specs.declared.op.Op.{Op}
+use Rattle.rht_words.specs.declared.op.Op.TheVariants.{Load, Store, Exchange, Add, Sub, And, Or}
+use Rattle.rht_words.specs.declared.machine.Next.TheVariants.{Done}
+use Rattle.rht_words.specs.declared.geometry.Geometry.{Geometry}
+use Rattle.rht_words.specs.Places.{NodeMap, map_words, place_of}
+use Rattle.rht_words.specs.Machines.{Performed, Ran}
+use Rattle.rht_arena.specs.Laws.{taking_ran}
+
+-- who begins with one of so many words comes to this one behind so many: the words from that one on, and then those from the
+-- first on
+abbrev pub word_turned : ℕ → ℕ → ℕ → ℕ
+word_turned words start count = if nat_lt (start + count) words then start + count else start + count - words
+
+-- the loads of these operations are of the words that come behind so many, up to those that come behind so many more: each of the next
+-- one. No other operation is a load.
+abbrev pub LoadsNext : Geometry → ℕ → ℕ → Op → (ℕ → Type 0) → Type 0
+LoadsNext g start count (Load place) Behind =
+    (place ≡ place_of g (NodeMap (word_turned (map_words g.nodes) start count))) × Behind (count + 1)
+LoadsNext g start count (And place mask) Behind = Behind count
+LoadsNext g start count (Store place value) Behind = ⊥
+LoadsNext g start count (Exchange place old new) Behind = ⊥
+LoadsNext g start count (Add place by) Behind = ⊥
+LoadsNext g start count (Sub place by) Behind = ⊥
+LoadsNext g start count (Or place mask) Behind = ⊥
+
+abbrev pub LoadsInOrder : Geometry → ℕ → ℕ → ℕ → List Performed → Type 0
+LoadsInOrder g start count until [] = count ≡ until
+LoadsInOrder g start count until (step ∷ steps) =
+    LoadsNext g start count step.op (λ more. LoadsInOrder g start more until steps)
+
+-- the first so many words were loaded, each once, in this order; where none is answered, all
+pub record HasLookedOnce (g : Geometry) (start : ℕ) (olds : List ℕ) : Type 0 where
+  pub loaded : ℕ
+  pub few : loaded ≤ map_words g.nodes
+  pub in_order : LoadsInOrder g start 0 loaded (taking_ran g start olds).steps
+  pub all : (taking_ran g start olds).next ≡ Done None → loaded ≡ map_words g.nodes
+
+-- whatever it finds, the taking of a node looks at each word of the map at most once, and comes round at most once
+abbrev pub LooksOnce : Type 0
+LooksOnce = (g : Geometry) (start : ℕ) (olds : List ℕ) → start < map_words g.nodes → HasLookedOnce g start olds
