@@ -1,7 +1,7 @@
 -- How a call begins, and that who is in no call plans no operation.
 -- These go by cases on calls and machines, so that nothing above them has to.
-use Rattle.std.proofs.Common.{◌≡◌, ℕ, Bool, true, refl, subst}
-use Rattle.std.specs.Prelude.{Option, Some, None}
+use Rattle.std.proofs.Common.{◌≡◌, ℕ, Bool, true, refl, ap, subst}
+use Rattle.std.specs.Prelude.{Option, Some, None, option_map}
 use Rattle.rht_words.specs.declared.env.Env.{Env}
 use Rattle.rht_model.specs.declared.history.Call.{Call}
 use Rattle.rht_model.specs.declared.history.Call.TheVariants.{Bind, Find, Release, Rebind, All, Walk, Work, Tidy, Count}
@@ -12,7 +12,7 @@ use Rattle.rht_release.specs.All.{all_new}
 use Rattle.rht_callers.specs.declared.local.Local.{Local}
 use Rattle.rht_callers.specs.declared.local.Doing.{Doing}
 use Rattle.rht_callers.specs.declared.local.Doing.TheVariants.{Idle, Finding, Binding, Releasing, Rebinding, Listing, Working, Counting, Tidying, Walking}
-use Rattle.rht_callers.specs.Locals.{room_for_nodes, does_nothing, is_idle, machine_from, tidying_of, doing_plan, plan_of}
+use Rattle.rht_callers.specs.Locals.{room_for_nodes, does_nothing, is_idle, machine_from, tidying_of, doing_plan, soft, plan_of}
 use Rattle.rht_release.specs.Release.{release_new}
 use Rattle.rht_release.specs.Rebind.{rebind_from}
 use Rattle.rht_move.specs.Work.{work_new}
@@ -64,4 +64,4 @@ module _ (M : Type 0) where
   nothing_plans _ idle = absurd (cc)
 
   pub idle_plans : (local : Local M) → is_idle local ≡ true → plan_of local ≡ None
-  idle_plans local idle = nothing_plans local.doing idle
+  idle_plans local idle = ap (option_map (soft local.held)) (nothing_plans local.doing idle)

@@ -1,6 +1,7 @@
 -- A caller: what it is doing, the operation that it plans, what it becomes with the word's old value, and its rooms for lists.
-use Rattle.std.specs.Prelude.{◌≡◌, ℕ, Bool, true, false, Option, Some, None, []}
+use Rattle.std.specs.Prelude.{◌≡◌, ◌==◌, ◌&&◌, nat_le, nat_lt, if◌then◌else◌, ℕ, Bool, true, false, Option, Some, None, option_map, []}
 use Rattle.rht_words.specs.declared.op.Op.{Op}
+use Rattle.rht_words.specs.declared.op.Op.TheVariants.{Load, Add}
 use Rattle.rht_words.specs.declared.machine.Next.{Next}
 use Rattle.rht_words.specs.declared.machine.Next.TheVariants.{Go, Done}
 use Rattle.rht_words.specs.declared.env.Env.{Env}
@@ -209,6 +210,25 @@ module _ {M : Type 0} where
   pairs_after (Tidying m) room old = room
   pairs_after (Walking m) room old = pairs_given (walk_after m old) room
 
+-- ---- operations in a hold
+
+-- the operation adds 1 to a section word
+abbrev pub turns_section : ℕ → ℕ → Bool
+turns_section place by = nat_le 8 place && nat_lt place 24 && by == 1
+
+-- what an operation is that a machine plans: while its caller holds a section open, one that would turn the section loads its word
+abbrev pub soft : Bool → Op → Op
+soft over (Add place by) = if turns_section place by && over then Load place else Add place by
+soft over op = op
+
+-- the call may be made so: while its caller holds a section open it looks a port up, walks, or reads the count
+abbrev pub may_hold : Bool → Call → Bool
+may_hold false call = true
+may_hold true (Find port) = true
+may_hold true (Walk from limit) = true
+may_hold true Count = true
+may_hold true _ = false
+
 -- ---- a caller with its rooms
 
 module _ {M : Type 0} where
@@ -219,11 +239,16 @@ module _ {M : Type 0} where
     owners = room_for_nodes env;
     pairs = room_for_nodes env;
     batch = Some (batch_new env.geometry);
+    held = false;
   }
 
   -- it is in no call
   abbrev pub is_idle : Local M → Bool
   is_idle local = does_nothing local.doing
+
+  -- it may be given this call
+  abbrev pub may_begin : Local M → Call → Bool
+  may_begin local call = is_idle local && may_hold local.held call
 
   -- it begins with this: both rooms are emptied, a listing has the room of owners, a walk that of pairs, and a tidying the batch
   abbrev pub begin_with : Local M → Doing M → Local M
@@ -232,6 +257,7 @@ module _ {M : Type 0} where
     owners = owners_beside doing local.owners;
     pairs = pairs_beside doing local.pairs;
     batch = batch_beside doing local.batch;
+    held = local.held;
   }
 
   -- it begins with this, where there is a machine for its call
@@ -239,9 +265,9 @@ module _ {M : Type 0} where
   begun_with local None = local
   begun_with local (Some doing) = begin_with local doing
 
-  -- the operation that it performs next
+  -- the operation that it performs next: its machine's, but that it opens and closes no section while it holds one open
   abbrev pub plan_of : Local M → Option Op
-  plan_of local = doing_plan local.doing
+  plan_of local = option_map (soft local.held) (doing_plan local.doing)
 
   -- what becomes of it after its operation found this value, and the reply where the call has ended
   abbrev pub local_after : (ℕ → ℕ → ℕ → ℕ) → Local M → ℕ → Local M × Option Reply

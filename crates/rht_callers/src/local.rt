@@ -4,7 +4,7 @@ ghost use Rattle.std.specs.Prelude.{◌≡◌, ◌<◌, IfSome, IfOk, Some};
 ghost use Rattle.rht_words.specs.Operations.{op_place};
 ghost use Rattle.rht_words.specs.Places.{words_in};
 ghost use Rattle.rht_words.specs.declared.env.Env.{Env};
-ghost use Rattle.rht_callers.specs.Locals.{does_nothing, is_idle, machine_from, machine_of, doing_plan, plan_of, doing_after, without_node, owners_after, pairs_after, local_after, begun_with, fresh, IsDoingOf, IsLocalOf};
+ghost use Rattle.rht_callers.specs.Locals.{does_nothing, is_idle, machine_from, machine_of, doing_plan, soft, plan_of, may_hold, may_begin, doing_after, without_node, owners_after, pairs_after, local_after, begun_with, fresh, IsDoingOf, IsLocalOf};
 ghost use Rattle.rht_callers.specs.Batches.{with_out, node_out, out_of, batch_after, IsBatchIn, CanPut};
 
 use crate::count::PortCount;
@@ -126,6 +126,34 @@ impl<M: Mix> Doing<M> {
     }
 }
 
+/// Whether the call may be made while its caller holds a section open, where it does.
+fn may_hold(held: bool, call: &Call) -> bool
+    ensures { result ≡ may_hold held call.now }
+{
+    if !held {
+        return true;
+    }
+    match call {
+        Call::Find { .. } | Call::Walk { .. } | Call::Count => true,
+        Call::Bind { .. } | Call::All { .. } | Call::Release { .. } => false,
+        Call::Rebind { .. } | Call::Work | Call::Tidy => false,
+    }
+}
+
+/// The operation that a caller makes where its machine plans this one: while it holds a section
+/// open, one that would turn the section loads its word.
+fn soft(held: bool, op: Op) -> Op
+    ensures soft { result ≡ soft held op }
+    ensures place { op_place result ≡ op_place op }
+{
+    if let Op::Add { place, by } = op {
+        if held && 8 <= place && place < 24 && by == 1 {
+            return Op::load(place);
+        }
+    }
+    op
+}
+
 /// The reply. A node that was taken out goes into the batch.
 fn without_node(next: Next<(Reply, Option<u32>)>, batch: &mut Option<Batch>) -> Next<Reply>
     requires { CanPut batch.old (node_out next) }
@@ -167,6 +195,8 @@ pub struct Local<M: Mix> {
     /// The nodes that its calls took out and that aren't given back. `None` while the caller tidies:
     /// then the tidying has them.
     pub batch: Option<Batch>,
+    /// It holds its read section open over its calls.
+    pub held: bool,
 }
 
 impl<M: Mix> Local<M> {
@@ -179,6 +209,7 @@ impl<M: Mix> Local<M> {
             owners: Room::with_limit(alloc, env.geometry.nodes)?,
             pairs: Room::with_limit(alloc, env.geometry.nodes)?,
             batch: Some(Batch::new(alloc, env.geometry)?),
+            held: false,
         })
     }
 
@@ -187,6 +218,14 @@ impl<M: Mix> Local<M> {
         ensures { result ≡ is_idle self.now }
     {
         self.doing.is_idle()
+    }
+
+    /// Whether the caller may be given the call: it is in no call, and while it holds its section
+    /// open the call is a look-up, a walk, or a reading of the count.
+    pub fn may_begin(&self, call: &Call) -> bool
+        ensures { result ≡ may_begin self.now call.now }
+    {
+        self.is_idle() && may_hold(self.held, call)
     }
 
     /// The owners of the last finished call, while the caller is in no call and where that one
@@ -257,7 +296,10 @@ impl<M: Mix> Local<M> {
         ensures plan { result ≡ plan_of self.now }
         ensures place { (env : Env) → IsLocalOf env self.now → IfSome result (λ op. op_place op < words_in env.geometry) }
     {
-        self.doing.plan()
+        match self.doing.plan() {
+            None => None,
+            Some(op) => Some(soft(self.held, op)),
+        }
     }
 
     /// Takes in the old value of the word that the operation was on. A reply ends the call. A node that

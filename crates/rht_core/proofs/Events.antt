@@ -30,6 +30,8 @@ pub mod PagesThere
 pub mod InvariantRuns
 -- what each event keeps of callers and of the ghost
 pub mod KeptAtEvents
+-- a caller may hold its section open over its calls
+pub mod HeldEvents
 -- where a section word stays, so do the tables to which the section comes
 pub mod UnturnedSections
 -- a bucket of such a table stays where it is
@@ -45,4 +47,5 @@ pub mod SaidOfNodes
 -- in every run a node that is handed out may be put into a batch, and none stands there twice
 pub mod BatchesInRuns
 -- in every run a section word is odd just where its caller's call is in its section, and no other call changes it
+pub mod SectionMoves
 pub mod SectionsInRuns

@@ -7,5 +7,7 @@ pub mod WalkSteps
 pub mod ReturnPlans
 -- a job, operation by operation
 pub mod JobSteps
+-- and while its caller holds its section open over its calls
+pub mod HeldSteps
 -- what a job never holds, by its call
 pub mod NeverHeld

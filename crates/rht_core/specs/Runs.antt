@@ -21,7 +21,7 @@ use Rattle.rht_core.specs.declared.book.Book.{Book}
 use Rattle.rht_callers.specs.declared.local.Local.{Local}
 use Rattle.rht_callers.specs.declared.local.Doing.{Doing}
 use Rattle.rht_callers.specs.Batches.{CanPut, out_of}
-use Rattle.rht_callers.specs.Locals.{fresh, is_idle, machine_from, begin_with, plan_of, local_after, ending_of, IsLocalOf}
+use Rattle.rht_callers.specs.Locals.{fresh, is_idle, may_begin, machine_from, begin_with, plan_of, local_after, ending_of, IsLocalOf}
 
 -- what the program keeps of a run: the words, how many callers have enrolled, and what each is doing
 pub record Core (M : Type 0) : Type 0 where
@@ -61,7 +61,7 @@ module _ {M : Type 0} where
   -- what a caller does that is given this call, and the word from which on it is to look for a free node; none where it isn't enrolled or is in a call, or where a tidying has no batch
   abbrev pub beginning : Env → ℕ → List (Local M) → ℕ → Call → ℕ → Option (Doing M)
   beginning env enrolled locals c call start =
-      if nat_lt c enrolled && is_idle (local_in env locals c) then machine_from env c (local_in env locals c).batch call start else None
+      if nat_lt c enrolled && may_begin (local_in env locals c) call then machine_from env c (local_in env locals c).batch call start else None
 
   -- the callers after one of them has begun with what it does
   abbrev pub with_machine : Env → List (Local M) → ℕ → Option (Doing M) → List (Local M)

@@ -194,7 +194,7 @@ fn begin<M: Mix>(
 {
     if caller < enrolled {
         let local = &mut locals[caller as usize];
-        if local.is_idle() {
+        if local.may_begin(&call) {
             local.begin_from(env, caller, call, start);
         }
     }

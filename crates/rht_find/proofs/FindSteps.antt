@@ -36,7 +36,7 @@ use Rattle.rht_ghost.proofs.Theory.Knowledge.{Knowing}
 use Rattle.rht_ghost.proofs.Theory.Knowns.{known_nothing}
 use Rattle.rht_ghost.proofs.Theory.Answering.{IsRight, KeepsAnswer, claims, none_early}
 use Rattle.rht_ghost.proofs.Theory.Steps.{Holding, mem, owners, Step, loads, answered, answered_where, reads, still_has}
-use Rattle.rht_ghost.proofs.Pieces.OwnSections.{open_step, close_step}
+use Rattle.rht_ghost.proofs.Pieces.OwnSections.{OpensNone, open_step, close_step}
 
 -- ---- states between the opening and the closing
 
@@ -173,33 +173,33 @@ module _ (env : Env) (mix : ℕ → ℕ → ℕ → ℕ) (c : ℕ) (port : ℕ) 
     next_moved table (Some next) knows = goes_on (at.Future table) (next_table env (Some next)) refl refl refl knows
 
     -- each operation of a look-up leads from what it holds to what it holds next
-    pub find_step : (state : FindAt) → FindKnows state M G → FindStep state
-    find_step at.Opening knows =
+    pub find_step : (state : FindAt) → OpensNone env c G (plan_at env c state) (held_of_find state) → FindKnows state M G → FindStep state
+    find_step at.Opening outside knows =
         answered env mix None (inl refl) (still_has refl)
-        (open_step env mix c held.holds_nothing known_nothing refl words G all whole low knows)
-    find_step at.CurrentTable knows =
+        (open_step env mix c held.holds_nothing known_nothing refl words G all whole low (outside refl refl) knows)
+    find_step at.CurrentTable outside knows =
         goes_on at.CurrentTable (locating env (table_of (old_of words (plan_at env c at.CurrentTable)))) refl refl refl knows
-    find_step (at.Locating reach) knows =
+    find_step (at.Locating reach) outside knows =
         let r = reach_after mix port reach (old_of words (reach_plan reach)) in
         goes_on (at.Locating reach) (reached env r.0 r.1) (reach_leaves reach (old_of words (reach_plan reach))) refl
         (reached-inside env r.0 r.1) knows
-    find_step (at.Heading head) knows =
+    find_step (at.Heading head) outside knows =
         let link = head_of head.place (old_of words (plan_at env c (at.Heading head))) in
         goes_on (at.Heading head) _ refl refl
         (led_to-inside env.geometry head 0 link (node_of env.geometry.nodes link)) knows
-    find_step (at.Key head node visited) knows =
+    find_step (at.Key head node visited) outside knows =
         goes_on (at.Key head node visited) _ refl refl
         (compared-inside port head node visited (old_of words (plan_at env c (at.Key head node visited)))) knows
-    find_step (at.Link head node visited) knows =
+    find_step (at.Link head node visited) outside knows =
         let link = old_of words (plan_at env c (at.Link head node visited)) in
         goes_on (at.Link head node visited) _ refl refl
         (led_to-inside env.geometry head visited link (node_of env.geometry.nodes link)) knows
-    find_step (at.Future table) knows =
+    find_step (at.Future table) outside knows =
         next_moved table (slot_of (old_of words (plan_at env c (at.Future table)))) knows
-    find_step (at.Owner node) knows =
+    find_step (at.Owner node) outside knows =
         let owner = owner_of (old_of words (plan_at env c (at.Owner node))) in
         claims_it (at.Owner node) (Found owner) refl refl (found_right owner) refl knows
-    find_step (at.Closing reply) knows =
+    find_step (at.Closing reply) outside knows =
         answered env mix (Some (plain reply)) (inl (keeps reply)) (still_has refl)
         (close_step env mix c (held.ended_with (plain reply)) known_nothing refl words G all whole low refl refl knows)
       where

@@ -50,3 +50,5 @@ pub mod KeepSteps
 pub mod ReturnLoads
 -- and what it does to give them back
 pub mod ReturnStores
+-- what a call does whose caller holds its section open over its calls
+pub mod HeldSections

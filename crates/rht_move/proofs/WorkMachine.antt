@@ -30,7 +30,7 @@ use Rattle.rht_ghost.proofs.Theory.Wholes.{Whole}
 use Rattle.rht_ghost.proofs.Theory.Knowns.{MakesNothing, NoAim, KnownPlace, Works, LeavesBehind}
 use Rattle.rht_ghost.proofs.Theory.Answering.{keeps as keeps_answer}
 use Rattle.rht_ghost.proofs.Theory.Steps.{answered-map, Holding, mem, still_has}
-use Rattle.rht_ghost.proofs.Pieces.OwnSections.{open_step, close_step}
+use Rattle.rht_ghost.proofs.Pieces.OwnSections.{OpensNone, open_step, close_step}
 use Rattle.rht_ghost.proofs.Pieces.WorkSteps.{knows_work, unlock_work_step}
 use Rattle.rht_ghost.proofs.Pieces.WorkStores.{give_work_step, stop_step, publish_step, retire_step}
 use Rattle.rht_ghost.proofs.Pieces.KeepSteps.{keep_load_step, keep_store_step, settle_step}
@@ -58,10 +58,10 @@ module _ (env : Env) (mix : ℕ → ℕ → ℕ → ℕ) (c : ℕ) (low : c < en
 
   -- ---- its section
 
-  open_section : WorkKnows at.Opening M G → WorkStep at.Opening
-  open_section known =
+  open_section : G.from c ≡ None → WorkKnows at.Opening M G → WorkStep at.Opening
+  open_section none known =
       leads at.CurrentTable (inl refl) refl refl refl
-      (open_step env mix c holds_work_lock (knows_work MakesNothing Works) refl words G all whole low known)
+      (open_step env mix c holds_work_lock (knows_work MakesNothing Works) refl words G all whole low none known)
 
   close_section : (ending : Ending) → WorkKnows (at.Closing ending) M G → WorkStep (at.Closing ending)
   close_section (endings.Retiring root again) known =
@@ -163,52 +163,53 @@ module _ (env : Env) (mix : ℕ → ℕ → ℕ → ℕ) (c : ℕ) (low : c < en
   -- ---- all states
 
   -- each operation of a resizing leads from what it knows to what it knows next
-  pub work_step : (state : WorkAt) → IsWorkAtIn env state → WorkKnows state M G → WorkStep state
-  work_step at.WorkLock is known = take_lock env mix c words G all whole known
-  work_step (at.Returning returns) is known = return_step env mix c words G all whole returns is known
-  work_step at.Opening is known = open_section known
-  work_step at.CurrentTable is known = root_loaded env mix c words G all whole known
-  work_step (at.LastTable root seek) is known =
+  pub work_step : (state : WorkAt) → IsWorkAtIn env state → OpensNone env c G (plan_at env c state) (held_of_work state)
+      → WorkKnows state M G → WorkStep state
+  work_step at.WorkLock is outside known = take_lock env mix c words G all whole known
+  work_step (at.Returning returns) is outside known = return_step env mix c words G all whole returns is known
+  work_step at.Opening is outside known = open_section (outside refl refl) known
+  work_step at.CurrentTable is outside known = root_loaded env mix c words G all whole known
+  work_step (at.LastTable root seek) is outside known =
       seeking_last env mix c words G all whole root seek is known
-  work_step (at.Count root last) is known =
+  work_step (at.Count root last) is outside known =
       count_loaded env mix c words G all whole root last known
-  work_step (at.Making wanted make) is known = make_due env mix c words G all whole wanted make is known
-  work_step (at.Attaching root last slot shape) is known =
+  work_step (at.Making wanted make) is outside known = make_due env mix c words G all whole wanted make is known
+  work_step (at.Attaching root last slot shape) is outside known =
       attach_due env mix c words G all whole root last slot shape is.last_in known
-  work_step (at.Unmaking root unmake) is known =
+  work_step (at.Unmaking root unmake) is outside known =
       unmake_due env mix c words G all whole root unmake is known
-  work_step (at.RootFuture root due) is known =
+  work_step (at.RootFuture root due) is outside known =
       root_future env mix c words G all whole root due (slot_of (M (Slot root FutureWord))) refl known
-  work_step (at.RootShape root future again) is known =
+  work_step (at.RootShape root future again) is outside known =
       root_shape env mix c words G all whole root future again known
-  work_step (at.Entry rehash number place) is known =
+  work_step (at.Entry rehash number place) is outside known =
       entry_loaded env mix c words G all whole rehash number place is known
-  work_step (at.Locking rehash number lock) is known =
+  work_step (at.Locking rehash number lock) is outside known =
       locking env mix c words G all whole rehash number lock is known
-  work_step (at.EntryTable emptying seek) is known =
+  work_step (at.EntryTable emptying seek) is outside known =
       seeking_entry env mix c words G all whole emptying seek is known
-  work_step (at.Seed emptying last) is known =
+  work_step (at.Seed emptying last) is outside known =
       seed_loaded env mix c words G all whole emptying last known
-  work_step (at.BucketWord emptying target) is known =
+  work_step (at.BucketWord emptying target) is outside known =
       bucket_word env mix c words G all whole emptying target known
-  work_step (at.Walking emptying target walk) is known =
+  work_step (at.Walking emptying target walk) is outside known =
       walking env mix c words G all whole emptying target walk is.walk_in.geometry_same known
-  work_step (at.Key emptying target entry) is known =
+  work_step (at.Key emptying target entry) is outside known =
       key_loaded env mix c words G all whole emptying target entry known
-  work_step (at.LockingSecond emptying entry table lock) is known =
+  work_step (at.LockingSecond emptying entry table lock) is outside known =
       locking_second env mix c words G all whole emptying entry table lock is known
-  work_step (at.EntryLink emptying entry second) is known =
+  work_step (at.EntryLink emptying entry second) is outside known =
       link_entry env mix c words G all whole emptying entry second known
-  work_step (at.Linking emptying entry second) is known =
+  work_step (at.Linking emptying entry second) is outside known =
       link_bucket env mix c words G all whole emptying entry second known
-  work_step (at.CuttingOff emptying entry) is known =
+  work_step (at.CuttingOff emptying entry) is outside known =
       cutting env mix c words G all whole emptying entry.node entry.before known
-  work_step (at.Unlocking rehash number unlocks stop) is known =
+  work_step (at.Unlocking rehash number unlocks stop) is outside known =
       unlock rehash number unlocks.place unlocks.word stop is.bucket_in.number_in known
-  work_step (at.Publishing rehash) is known = publish rehash known
-  work_step (at.NewFuture rehash) is known =
+  work_step (at.Publishing rehash) is outside known = publish rehash known
+  work_step (at.NewFuture rehash) is outside known =
       retire_next rehash (slot_of (M (Slot rehash.future FutureWord))) known
-  work_step (at.Closing ending) is known = close_section ending known
-  work_step (at.Retiring root again) is known = retire root again known
-  work_step (at.KeepingSections m again) is known = keep m again is known
-  work_step (at.LettingGo outcome) is known = let_go outcome known
+  work_step (at.Closing ending) is outside known = close_section ending known
+  work_step (at.Retiring root again) is outside known = retire root again known
+  work_step (at.KeepingSections m again) is outside known = keep m again is known
+  work_step (at.LettingGo outcome) is outside known = let_go outcome known

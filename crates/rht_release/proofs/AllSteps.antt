@@ -35,7 +35,7 @@ use Rattle.rht_ghost.proofs.Theory.Answering.{IsLegalOn, IsRight, Tells, keeps, 
 use Rattle.rht_ghost.proofs.Theory.Steps.{answered-map, Holding, mem, owners, owners_in, StepWhere, step-map, reads, HoldsNoneEarly, still_has}
 use Rattle.rht_ghost.proofs.Pieces.Locates.{IsThereFor}
 use Rattle.rht_ghost.proofs.Pieces.Locks.{unlock_step}
-use Rattle.rht_ghost.proofs.Pieces.OwnSections.{open_step, close_step}
+use Rattle.rht_ghost.proofs.Pieces.OwnSections.{OpensNone, open_step, close_step}
 use Rattle.rht_ghost.proofs.Pieces.Lists.{list_among, list_few, list_rest, found_list}
 use Rattle.rht_release.proofs.Seeks as seeks
 use Rattle.rht_release.proofs.Seeks.{in_list}
@@ -281,31 +281,32 @@ module _ (env : Env) (mix : ℕ → ℕ → ℕ → ℕ) (c : ℕ) (port : ℕ) 
         step-map env mix (found_knows next found none) step
 
     -- ---- each operation leads from what the listing knows to what it knows next
-    pub all_step : c < env.geometry.callers → (at : AllAt) → IsAllAtIn env at → AllKnows room at M G → AllStep at
-    all_step low at.Opening is known =
+    pub all_step : c < env.geometry.callers → (at : AllAt) → IsAllAtIn env at → OpensNone env c G (plan_at env c at) (held_of_all room.items at)
+        → AllKnows room at M G → AllStep at
+    all_step low at.Opening is outside known =
         answered-map env mix None (inl refl) (still_has refl)
         (λ M' G' w k. record { knowing = k; fits = (tt, known.fits) })
-        (open_step env mix c held.holds_nothing known_nothing refl words G all whole low known.knowing)
-    all_step low (at.Seeking seek) is known =
+        (open_step env mix c held.holds_nothing known_nothing refl words G all whole low (outside refl refl) known.knowing)
+    all_step low (at.Seeking seek) is outside known =
         let none = known.fits.1 in
         seek_next seek (seek_after mix port seek (old_of words (seek_plan seek))) none
         (seeks.seek_step env mix c call port None None absent words G all whole
         (λ unbound. listing_legal room.items (unbound ∙ sym none)) (listing_right room.items) refl seek is
         (record { knowing = known.knowing; fits = known.fits.0 }))
-    all_step low (at.Owner found node) is known = owner_kept found node known
-    all_step low (at.ListLink found node) is known =
+    all_step low (at.Owner found node) is outside known = owner_kept found node known
+    all_step low (at.ListLink found node) is outside known =
         let listed = known.knowing.means.bucket in
         let among = listed.means.among in
         link_next found node known among.rear refl
         (list_rest env mix M G whole port found.node listed.behind listed.bound_to node listed.means.before
         among)
-    all_step low (at.Unlocking table unlock) is known =
+    all_step low (at.Unlocking table unlock) is outside known =
         let answer = Some (listing_of room.items) in
         let told : Holding = record holds_section { answer = answer } in
         answered-map env mix answer (inl (keeps answer)) (still_has refl)
         (λ M' G' w k. record { knowing = k; fits = tt })
         (unlock_step env mix c told None Nowhere words G all whole refl unlock.place unlock.word known.knowing)
-    all_step low at.Closing is known =
+    all_step low at.Closing is outside known =
         let answer = Some (listing_of room.items) in
         let told : Holding = held.ended_with (listing_of room.items) in
         answered-map env mix answer (inl (keeps answer)) (still_has refl) (λ M' G' w k. k)

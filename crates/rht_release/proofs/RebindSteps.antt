@@ -45,7 +45,7 @@ use Rattle.rht_ghost.proofs.Theory.Steps.{answered-map, Holding, mem, owners, Si
 use Rattle.rht_ghost.proofs.Pieces.Locates.{IsThereFor}
 use Rattle.rht_ghost.proofs.Pieces.NewNodes as nodes
 use Rattle.rht_ghost.proofs.Pieces.Locks.{unlock_step, unlock_taken}
-use Rattle.rht_ghost.proofs.Pieces.OwnSections.{open_step, close_step}
+use Rattle.rht_ghost.proofs.Pieces.OwnSections.{OpensNone, open_step, close_step}
 use Rattle.rht_release.proofs.Seeks as seeks
 use Rattle.rht_release.proofs.Seeks.{in_list}
 use Rattle.rht_ghost.proofs.Pieces.Relinks.{unstored, relinking_so}
@@ -394,12 +394,12 @@ module _ (env : Env) (mix : ℕ → ℕ → ℕ → ℕ) (c : ℕ) (port owner n
   -- ---- its read section
 
   -- it is opened with the new node
-  opening_step : (n : ℕ) → RebindKnows (at.Opening n) M G → RebindStep (at.Opening n)
-  opening_step n known =
+  opening_step : (n : ℕ) → G.from c ≡ None → RebindKnows (at.Opening n) M G → RebindStep (at.Opening n)
+  opening_step n none known =
       answered-map env mix None (inl refl) (still_has refl)
       (λ M' G' w k. record { knowing = k; fits = tt })
       (open_step env mix c (holds_outside n None) (knows_of port owner new n Unlocked) refl words G all whole low
-      known.knowing)
+      none known.knowing)
 
   -- and closed with it, where it is given back next
   absent_step : (n : ℕ) → RebindKnows (at.Closing (ends.Absent n)) M G → RebindStep (at.Closing (ends.Absent n))
@@ -421,8 +421,9 @@ module _ (env : Env) (mix : ℕ → ℕ → ℕ → ℕ) (c : ℕ) (port owner n
   -- ---- all states
 
   -- each operation leads from what the rebind knows to what it knows next
-  pub rebind_step : (at : RebindAt) → IsRebindAtIn env at → RebindKnows at M G → RebindStep at
-  rebind_step (at.Filling fresh) is known =
+  pub rebind_step : (at : RebindAt) → IsRebindAtIn env at → OpensNone env c G (plan_at env c at) (held_of_rebind at)
+      → RebindKnows at M G → RebindStep at
+  rebind_step (at.Filling fresh) is outside known =
       let r = new_node_after fresh (old_of words (new_node_plan fresh)) in
       let Knows : ℕ → ℕ → Type 0 =
       λ key o. making (node_of_new fresh.at) (nodes.known_at key o fresh.at) M G in
@@ -436,25 +437,25 @@ module _ (env : Env) (mix : ℕ → ℕ → ℕ → ℕ) (c : ℕ) (port owner n
       (nodes.made_none fresh.at (old_of words (new_node_plan fresh)))
       (subst (λ key. MakingMoved fresh key new r) known.fits.0
       (subst (λ o. MakingMoved fresh fresh.key o r) known.fits.1 step))
-  rebind_step (at.Opening n) is known = opening_step n known
-  rebind_step (at.Seeking n seek) is known =
+  rebind_step (at.Opening n) is outside known = opening_step n (outside refl refl) known
+  rebind_step (at.Seeking n seek) is outside known =
       seek_next n seek (seek_after mix port seek (old_of words (seek_plan seek)))
       (seeks.seek_step env mix c call port (Some n) (Some (own port owner new n)) (plain Absent)
       words G all whole
       (λ none. absent_legal (subst (NotIn owner) (sym none) tt)) (absent_right n) refl seek is.seek_in
       (record { knowing = known.knowing; fits = known.fits }))
-  rebind_step (at.Searching n found search) is known = searching n found search known
-  rebind_step (at.LinkBehind n found old before) is known = behind_step n found old before known
-  rebind_step (at.OwnListLink n found old before link) is known = own_step n found old before link known
-  rebind_step (at.Swapping n found old before) is known = swap_step n found old before known
-  rebind_step (at.ChainLink n found) is known = chain_step n found known
-  rebind_step (at.Link n found link) is known = link_next n found link known
-  rebind_step (at.Replacing n found relink) is known =
+  rebind_step (at.Searching n found search) is outside known = searching n found search known
+  rebind_step (at.LinkBehind n found old before) is outside known = behind_step n found old before known
+  rebind_step (at.OwnListLink n found old before link) is outside known = own_step n found old before link known
+  rebind_step (at.Swapping n found old before) is outside known = swap_step n found old before known
+  rebind_step (at.ChainLink n found) is outside known = chain_step n found known
+  rebind_step (at.Link n found link) is outside known = link_next n found link known
+  rebind_step (at.Replacing n found relink) is outside known =
       replacing_step n found relink is.found_in.before_in known
-  rebind_step (at.Unlocking table unlock end) is known = unlocking_step table unlock end known
-  rebind_step (at.Closing (ends.Rebound removed)) is known = rebound_step removed known
-  rebind_step (at.Closing (ends.Absent n)) is known = absent_step n known
-  rebind_step (at.Giving give) is known =
+  rebind_step (at.Unlocking table unlock end) is outside known = unlocking_step table unlock end known
+  rebind_step (at.Closing (ends.Rebound removed)) is outside known = rebound_step removed known
+  rebind_step (at.Closing (ends.Absent n)) is outside known = absent_step n known
+  rebind_step (at.Giving give) is outside known =
       let answer = Some (plain Absent) in
       let told : Holding = record held.holds_nothing { answer = answer } in
       let state = at.Giving (record { geometry = env.geometry; node = give.node }) in

@@ -20,7 +20,7 @@ use Rattle.rht_model.specs.declared.history.Reply.{Reply}
 use Rattle.rht_model.specs.declared.history.Reply.TheVariants.{Released, Absent}
 use Rattle.rht_model.specs.Answers.{plain}
 use Rattle.rht_release.specs.Release.{plan_at, promoting, closing, kicks, IsReleaseAtIn}
-use Rattle.rht_release.specs.ReleaseHeld.{holds_bucket, holds_answer}
+use Rattle.rht_release.specs.ReleaseHeld.{held_of_release, holds_bucket, holds_answer}
 use Rattle.rht_release.specs.declared.found_port.FoundPort.{FoundPort}
 use Rattle.rht_release.specs.declared.release.ReleaseAt.{ReleaseAt}
 use Rattle.rht_release.specs.declared.release.ReleaseAt.TheVariants as at
@@ -33,7 +33,7 @@ use Rattle.rht_ghost.proofs.Theory.Steps.{answered-map, Lowers, LinksBehind, Hol
 use Rattle.rht_ghost.proofs.Moves.Quiet.{count_down}
 use Rattle.rht_ghost.proofs.Moves.TakenNodes.{chain_behind}
 use Rattle.rht_ghost.proofs.Pieces.Locks.{unlock_step, unlock_taken}
-use Rattle.rht_ghost.proofs.Pieces.OwnSections.{open_step, close_step}
+use Rattle.rht_ghost.proofs.Pieces.OwnSections.{OpensNone, open_step, close_step}
 use Rattle.rht_ghost.proofs.Pieces.Rebounds.{found_kept}
 use Rattle.rht_ghost.proofs.Pieces.Relinks.{relinking_so}
 use Rattle.rht_release.proofs.ListSearches.{list_more}
@@ -276,11 +276,11 @@ module _ (env : Env) (mix : ℕ → ℕ → ℕ → ℕ) (c : ℕ) (port owner :
   -- ---- its read section
 
   -- it is opened before anything is known
-  opening_step : ReleaseKnows at.Opening M G → ReleaseStep at.Opening
-  opening_step known =
+  opening_step : G.from c ≡ None → ReleaseKnows at.Opening M G → ReleaseStep at.Opening
+  opening_step none known =
       answered-map env mix None (inl refl) (still_has refl)
       (λ M' G' w k. record { knowing = k; fits = tt })
-      (open_step env mix c held.holds_nothing known_nothing refl words G all whole low known.knowing)
+      (open_step env mix c held.holds_nothing known_nothing refl words G all whole low none known.knowing)
 
   -- while it is closed the release knows which node it has taken out, where it has
   closing_step : (reply : Reply) (removed : Option ℕ) → ReleaseKnows (at.Closing reply removed) M G
@@ -293,22 +293,23 @@ module _ (env : Env) (mix : ℕ → ℕ → ℕ → ℕ) (c : ℕ) (port owner :
   -- ---- all states
 
   -- each operation leads from what the release knows to what it knows next
-  pub release_step : (at : ReleaseAt) → IsReleaseAtIn env at → ReleaseKnows at M G → ReleaseStep at
-  release_step at.Opening is known = opening_step known
-  release_step (at.Seeking seek) is known =
+  pub release_step : (at : ReleaseAt) → IsReleaseAtIn env at → OpensNone env c G (plan_at env c at) (held_of_release at)
+      → ReleaseKnows at M G → ReleaseStep at
+  release_step at.Opening is outside known = opening_step (outside refl refl) known
+  release_step (at.Seeking seek) is outside known =
       seeking env mix c port owner low words G all whole seek is known
-  release_step (at.Searching found search) is known =
+  release_step (at.Searching found search) is outside known =
       searching env mix c port owner low words G all whole found search known
-  release_step (at.LinkBehind found node before) is known =
+  release_step (at.LinkBehind found node before) is outside known =
       behind_step env mix c port owner low words G all whole found node before known
-  release_step (at.CuttingOut found node before link) is known =
+  release_step (at.CuttingOut found node before link) is outside known =
       cut_step env mix c port owner low words G all whole found node before link known
-  release_step (at.ChainLink found second) is known = chain_step found second known
-  release_step (at.SecondLink found second link) is known = second_step found second link known
-  release_step (at.Promoting found relink) is known =
+  release_step (at.ChainLink found second) is outside known = chain_step found second known
+  release_step (at.SecondLink found second link) is outside known = second_step found second link known
+  release_step (at.Promoting found relink) is outside known =
       promoting_step found relink is.found_in.before_in known
-  release_step (at.Unlinking found relink) is known =
+  release_step (at.Unlinking found relink) is outside known =
       unlinking_step found relink is.found_in.before_in known
-  release_step (at.Lowering node shape) is known = lowering_step node shape known
-  release_step (at.Unlocking table unlock removed) is known = unlocking_step table unlock removed known
-  release_step (at.Closing reply removed) is known = closing_step reply removed known
+  release_step (at.Lowering node shape) is outside known = lowering_step node shape known
+  release_step (at.Unlocking table unlock removed) is outside known = unlocking_step table unlock removed known
+  release_step (at.Closing reply removed) is outside known = closing_step reply removed known

@@ -2,7 +2,7 @@
 -- 1. The run with the event more is one, and it changes which callers are enrolled in no event but an Enroll.
 -- 2. What the event makes of its caller is what the seat makes of its view, from the word that it found.
 -- 3. No other caller sees anything of it, and no other seat has this caller.
-use Rattle.std.proofs.Common.{◌≡◌, ◌≢◌, ℕ, ◌<◌, ⊎_elim, true, cond, List, [], ◌∷◌, ◌++◌, length, map, get_or, set, refl, sym, ap, ◌∙◌, subst, arith}
+use Rattle.std.proofs.Common.{◌≡◌, ◌≢◌, ℕ, ◌<◌, ⊎_elim, true, false, cond, List, [], ◌∷◌, ◌++◌, length, map, get_or, set, refl, sym, ap, ◌∙◌, subst, arith}
 use Rattle.std.specs.Prelude.{Option, Some, None}
 use Rattle.std.specs.Cmp.Derive.{both_true}
 use Rattle.std.proofs.lemmas.Bool.{lt-ltb}
@@ -23,7 +23,9 @@ use Rattle.rht_core.specs.Runs.{World, View, view_of, local_of, beginning_in, pl
 use Rattle.rht_core.specs.Laws.{view_begun, view_stepped, IsOfCaller}
 use Rattle.rht_core.proofs.Events.Worlds.{run_of-push, begin_self, begin_other, step_self, step_other, step_words}
 use Rattle.rht_core.proofs.Events.SoundRuns.{has_place, runs-in}
+use Rattle.rht_callers.specs.Locals.{may_hold}
 use Rattle.rht_core.proofs.Events.BatchesInRuns.{all_in_range}
+use Rattle.rht_core.proofs.Events.InvariantRuns.{has_inv}
 use Rattle.rht_core.proofs.Events.RangesInRuns.{enrolled}
 use Rattle.rht_run.specs.declared.seats.Held.{Held}
 use Rattle.rht_run.specs.declared.seats.SeatView.{SeatView}
@@ -60,7 +62,7 @@ module _ (M : Type 0) (mix : ℕ → ℕ → ℕ → ℕ) (env : Env) where
 
   -- ---- a caller of a run
 
-  module _ (events : List Event) (held : Held M) (shows : Shows env (run_of mix env events) held) where
+  module _ (events : List Event) (admitted : IsAdmitted events) (held : Held M) (shows : Shows env (run_of mix env events) held) where
     abbrev world : World M
     world = run_of mix env events
 
@@ -81,10 +83,11 @@ module _ (M : Type 0) (mix : ℕ → ℕ → ℕ → ℕ) (env : Env) where
         let c : ℕ = held.number in
         let idle : is_idle (local_of world.core c) ≡ true =
         ap (λ (x : View M). is_idle x.local) shows.shown ∙ can.idle in
+        let rests : (local_of world.core c).held ≡ false = (has_inv env mix M events admitted).inv.rests c in
         let same_env : world.core.env ≡ env = (runs-in M mix env events).same_env in
         let begins : beginning_in world.core c call 0 ≡ Some can.machine =
         ap (λ b. cond b (machine_of world.core.env c (local_of world.core c).batch call) None)
-        (both_true (lt-ltb c world.core.enrolled shows.enrolled) idle)
+        (both_true (lt-ltb c world.core.enrolled shows.enrolled) (both_true idle (ap (λ over. may_hold over call) rests)))
         ∙ ap (λ (e : Env). machine_of e c (local_of world.core c).batch call) same_env
         ∙ ap (λ (x : View M). machine_of env c x.local.batch call) shows.shown ∙ can.machine_is in
         begin_self M mix world c call 0 can.machine begins has_local
@@ -193,8 +196,8 @@ module _ (M : Type 0) (mix : ℕ → ℕ → ℕ → ℕ) (env : Env) where
           let then : Held M = held_then v.env (Some call) h in
           event_holds s r id v (begun (Some call) v) h then (Begin c call 0) s.words at one
           (ap (map (held_then v.env (Some call))) one) refl refl refl
-          (begin_admitted r.events h mine.shows call here) tt r.words
-          (begin_shown r.events h mine.shows call here
+          (begin_admitted r.events r.admitted h mine.shows call here) tt r.words
+          (begin_shown r.events r.admitted h mine.shows call here
           ∙ ap (λ (e : Env). view_in (held_then e (Some call) h)) (sym mine.same_env))
           (begin_other M mix Wo c call 0)
 
@@ -218,10 +221,10 @@ module _ (M : Type 0) (mix : ℕ → ℕ → ℕ → ℕ) (env : Env) where
           ap (λ (x : ℕ). set Wo.core.words (op_place op) (word_after x op)) same
           ∙ sym (step_words M mix Wo c op steps) in
           event_holds s r id v (stepped mix old v) h (held_stepped mix old h) (Step c) (laid_after op s.words) at one
-          (ap (map (held_stepped mix old)) one) refl refl refl (number_fits r.events h mine.shows) tt
+          (ap (map (held_stepped mix old)) one) refl refl refl (number_fits r.events r.admitted h mine.shows) tt
           (subst (IsLaidOut (laid_after op s.words)) words_are
           (laid-set s.words Wo.core.words (op_place op) (word_after old op) r.words below))
-          (step_self M mix Wo c op steps (has_local r.events h mine.shows) ∙ ap (view_stepped mix (old_of Wo.core.words op)) shown
+          (step_self M mix Wo c op steps (has_local r.events r.admitted h mine.shows) ∙ ap (view_stepped mix (old_of Wo.core.words op)) shown
           ∙ ap (λ (x : ℕ). view_stepped mix x (view_in h)) (sym same))
           (step_other M mix Wo c)
 

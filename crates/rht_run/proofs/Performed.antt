@@ -24,6 +24,7 @@ use Rattle.rht_core.specs.Laws.{view_stepped, IsLocalIn}
 use Rattle.rht_core.proofs.Events.Worlds.{run_of-push}
 use Rattle.rht_core.proofs.Events.BusyCallers.{busy_plans, begun_busy}
 use Rattle.rht_core.proofs.Events.BatchesInRuns.{all_in_range}
+use Rattle.rht_core.proofs.Events.InvariantRuns.{has_inv}
 use Rattle.rht_callers.specs.Batches.{IsBatchIn}
 use Rattle.rht_callers.proofs.RoomsOfCallers.{idle-limit, idle-pairs}
 use Rattle.rht_callers.proofs.BatchesOfCallers.{idle-batch}
@@ -109,6 +110,10 @@ module _ {M : Type 0} where
     local_in = of_run (λ e c local book. IsLocalIn e c local)
         (λ e events c admitted. (all_in_range M mix e events admitted).locals c)
 
+    -- no run has a caller that holds its section open over its calls
+    pub rests : p.local.held ≡ false
+    rests = of_run (λ e c local book. local.held ≡ false) (λ e events c admitted. (has_inv e mix M events admitted).inv.rests c)
+
     -- in no call it has its batch
     pub own_batch : is_idle p.local ≡ true → IsBatchIn t.env p.local.batch
     own_batch idle = idle-batch M (IsBatchIn t.env) p.local idle local_in.batch
@@ -142,10 +147,10 @@ module _ {M : Type 0} where
             let events = is.in_run.events in
             let event : Event = Begin p.number call 0 in
             let more = admitted_more M mix t.env events event admitted
-            (begin_admitted M mix t.env events held shows call can) in
+            (begin_admitted M mix t.env events admitted held shows call can) in
             (all_in_range M mix t.env (events ++ event ∷ []) more).plans p.number op
             (ap (λ (w : World M). plan_of (local_of w.core p.number)) (run_of-push M mix t.env events event)
-            ∙ ap (λ (v : View M). plan_of v.local) (begin_shown M mix t.env events held shows call can) ∙ plan)
+            ∙ ap (λ (v : View M). plan_of v.local) (begin_shown M mix t.env events admitted held shows call can) ∙ plan)
 
     pub plans_some : (begins : Option Call) → CanGo t.env p.number begins p.local
         → plan_of (local_then t.env p.number begins p.local) ≡ None → ⊥

@@ -1,7 +1,7 @@
 -- A call that is driven from outside its pass goes as its caller does in the run: each operation is one that a pass would make
 -- which had the caller, so what is known of passes is known here.
-use Rattle.std.proofs.Common.{◌≡◌, ℕ, ◌<◌, true, false, List, [], ◌∷◌, ◌++◌, map, refl, sym, ap, ◌∙◌, subst, arith}
-use Rattle.std.specs.Prelude.{Option, Some, None}
+use Rattle.std.proofs.Common.{◌≡◌, ℕ, ◌<◌, Bool, true, false, List, [], ◌∷◌, ◌++◌, map, refl, sym, ap, ◌∙◌, subst, arith}
+use Rattle.std.specs.Prelude.{Option, Some, None, option_map}
 use Rattle.atomic_table.specs.declared.shared.Seat.{Seat}
 use Rattle.rht_words.specs.declared.op.Op.{Op}
 use Rattle.rht_words.specs.declared.env.Env.{Env}
@@ -25,6 +25,8 @@ use Rattle.rht_release.specs.Rebind.{rebind_after}
 use Rattle.rht_move.specs.Work.{work_after}
 use Rattle.rht_walk.specs.Walk.{Pairs, WalkModel}
 use Rattle.rht_core.specs.Locals.{does_nothing, is_idle, machine_of, doing_plan, plan_of, doing_after, doing_next, without_node, owners_beside, owners_after, pairs_beside, pairs_after, begun_with, local_after, ending_of}
+use Rattle.rht_callers.specs.Locals.{soft}
+use Rattle.rht_core.proofs.Machines.HeldSteps.{soft-none}
 use Rattle.rht_core.specs.Runs.{book_begun, book_after, finished_with, IsAdmittedCall}
 use Rattle.rht_core.specs.Laws.{IsDoingIn}
 use Rattle.rht_run.specs.declared.seats.Held.{Held}
@@ -33,8 +35,8 @@ use Rattle.rht_run.specs.declared.table.Table.{Table}
 use Rattle.rht_run.specs.declared.pass.Pass.{Pass}
 use Rattle.rht_run.specs.Rule.{Went, book_then, local_then, held_then, held_stepped}
 use Rattle.rht_run.specs.Passes.{CanPerform, IsSameSeat, IsPassOf, IsCalling, HasCalled, book_in, book_of}
-use Rattle.rht_run.specs.Rides.{Riding, riding_of, riding_local, riding_pass, owners_in, pairs_in, batch_in, batch_with, handed, IsBefore, IsRiding, HasEnded, HasEndedWith, Stepped, HasCounted, piece_next, ended, replied, driven}
-use Rattle.rht_run.proofs.Performed.{local_in, number_few, ready, still}
+use Rattle.rht_run.specs.Rides.{Riding, riding_of, riding_local, riding_pass, owners_in, pairs_in, batch_in, over_in, batch_with, handed, IsBefore, IsRiding, HasEnded, HasEndedWith, Stepped, HasCounted, piece_next, ended, replied, driven}
+use Rattle.rht_run.proofs.Performed.{local_in, number_few, rests, ready, still}
 
 -- how a call has ended, where it has: its reply, and the node that it took out
 abbrev reply_in : Option (Reply × Option ℕ) → Option Reply
@@ -50,6 +52,12 @@ with-out : (batch : Option BatchModel) (removed : Option ℕ) → batch_with bat
 with-out None None = refl
 with-out (Some batch) None = refl
 with-out batch (Some node) = refl
+
+-- who holds no section open plans its machine's operation
+hard-planned : {M : Type 0} (over : Bool) (doing : Doing M) (op : Op) → over ≡ false → doing_plan doing ≡ Some op
+    → option_map (soft over) (doing_plan doing) ≡ Some op
+hard-planned over doing op none plan =
+    ap (λ b. option_map (soft b) (doing_plan doing)) none ∙ ap (option_map (soft false)) plan ∙ ap Some (soft-none op)
 
 -- a walk has its caller's room of pairs
 walks-not : (M : Type 0) (m : WalkModel) → ((room : Pairs) → pairs_beside {M = M} (Walking m) room ≡ emptied room) → ⊥
@@ -176,7 +184,9 @@ module _ {M : Type 0} (mix : ℕ → ℕ → ℕ → ℕ) (t : Table M) (r : Rid
 
     pub may_perform : (op : Op) → IsRiding mix t r doing seat → does_nothing doing ≡ false → doing_plan doing ≡ Some op
         → CanPerform None t seat op
-    may_perform op is busy plan = ready mix t (riding_pass r doing seat) None op is.pass busy plan
+    may_perform op is busy plan =
+        ready mix t (riding_pass r doing seat) None op is.pass busy
+        (hard-planned r.over doing op (rests mix t (riding_pass r doing seat) is.pass) plan)
 
     pub has_stepped : (seat' : Seat (Unit {0}) (SeatView M)) (old : ℕ) → IsRiding mix t r doing seat
         → ((room : Kept ℕ) → owners_after mix doing room old ≡ room)
@@ -189,7 +199,7 @@ module _ {M : Type 0} (mix : ℕ → ℕ → ℕ → ℕ) (t : Table M) (r : Rid
         let left : Riding = handed r (removed_in next.1) in
         let leads : (riding_local left next.0, reply_in next.1) ≡ local_after mix (riding_local r doing) old =
         λ i. (
-          record { doing = like.doing i; owners = sym (keeps r.owners) i; pairs = sym (pairs-stay doing r.pairs old apart) i; batch = like.batch i },
+          record { doing = like.doing i; owners = sym (keeps r.owners) i; pairs = sym (pairs-stay doing r.pairs old apart) i; batch = like.batch i; held = r.over },
           like.reply i,
         ) in
         let all = still mix t (riding_pass r doing seat) (riding_pass left next.0 seat') None old (reply_in next.1) is.pass same went refl leads in
@@ -217,7 +227,8 @@ module _ {M : Type 0} (mix : ℕ → ℕ → ℕ → ℕ) (t : Table M) (r : Rid
     may_begin op is begins admitted plan =
         ready mix t record { seat = seat; number = r.number; local = is.local } (Some r.call) op is.pass
         record { idle = is.idle; admitted = admitted; machine = doing; machine_is = begins-own is begins }
-        (ap (λ (m : Option (Doing M)). plan_of (begun_with is.local m)) (begins-own is begins) ∙ plan)
+        (ap (λ (m : Option (Doing M)). plan_of (begun_with is.local m)) (begins-own is begins)
+        ∙ hard-planned is.local.held doing op (rests mix t record { seat = seat; number = r.number; local = is.local } is.pass) plan)
 
     pub has_begun : (seat' : Seat (Unit {0}) (SeatView M)) (old : ℕ) → IsBefore mix t r seat
         → machine_of t.env r.number r.batch r.call ≡ Some doing → ((room : Kept ℕ) → owners_beside doing room ≡ emptied room)
@@ -238,11 +249,12 @@ module _ {M : Type 0} (mix : ℕ → ℕ → ℕ → ℕ) (t : Table M) (r : Rid
           owners = (empties is.local.owners ∙ is.owners) i;
           pairs = (apart is.local.pairs ∙ is.pairs) i;
           batch = (beside is.local.batch ∙ is.batch) i;
+          held = is.over i;
         }) in
         let leads : (riding_local left next.0, reply_in next.1)
         ≡ local_after mix (begun_with is.local (machine_of t.env r.number is.local.batch r.call)) old =
         (λ i. (
-          record { doing = like.doing i; owners = sym (keeps r.owners) i; pairs = sym (pairs-stay doing r.pairs old apart) i; batch = like.batch i },
+          record { doing = like.doing i; owners = sym (keeps r.owners) i; pairs = sym (pairs-stay doing r.pairs old apart) i; batch = like.batch i; held = r.over },
           like.reply i,
         ))
         ∙ ap (λ (l : Local M). local_after mix l old) (sym begun) in
@@ -279,6 +291,7 @@ module _ {M : Type 0} (mix : ℕ → ℕ → ℕ → ℕ) (t : Table M) (p : Pas
       owners = ap (λ (hs : List (Held M)). emptied (owners_in hs)) (sym is.held);
       pairs = ap (λ (hs : List (Held M)). emptied (pairs_in hs)) (sym is.held);
       batch = own_batch;
+      over = ap (λ (hs : List (Held M)). over_in hs) (sym is.held);
       finished = refl;
     }
 
@@ -303,6 +316,7 @@ module _ {M : Type 0} (mix : ℕ → ℕ → ℕ → ℕ) (t : Table M) (p : Pas
           owners = ap (λ (hs : List (Held M)). emptied (owners_in hs)) (sym is.held) i;
           pairs = ap (λ (hs : List (Held M)). emptied (pairs_in hs)) (sym is.held) i;
           batch = ap (λ (hs : List (Held M)). batch_with (batch_in hs) removed) (sym is.held) i;
+          held = ap (λ (hs : List (Held M)). over_in hs) (sym is.held) i;
         } in
         let here : after.local ≡ riding_local r Idle = local ∙ rooms in
         let same : riding_pass r Idle after.seat ≡ after =
@@ -330,6 +344,7 @@ module _ {M : Type 0} (mix : ℕ → ℕ → ℕ → ℕ) (t : Table M) (p : Pas
           owners = ap (λ (hs : List (Held M)). emptied (owners_in hs)) (sym is.held) i;
           pairs = ap (λ (hs : List (Held M)). emptied (pairs_in hs)) (sym is.held) i;
           batch = ap (λ (hs : List (Held M)). batch_in hs) (sym is.held) i;
+          held = ap (λ (hs : List (Held M)). over_in hs) (sym is.held) i;
         }) in
         let same : riding_pass r doing after.seat ≡ after =
         λ i. record { seat = after.seat; number = sym number i; local = sym here i } in

@@ -34,7 +34,7 @@ module _ {M : Type 0} (mix : ℕ → ℕ → ℕ → ℕ) (t : Table M) (r : Rid
   abbrev left_by : WalkModel × Next Reply → Local M × Option Reply
   left_by next =
       let doing : Doing M × Option Reply = doing_next Walking next in
-      (record { doing = doing.0; owners = r.owners; pairs = pairs_given next r.pairs; batch = r.batch }, doing.1)
+      (record { doing = doing.0; owners = r.owners; pairs = pairs_given next r.pairs; batch = r.batch; held = r.over }, doing.1)
 
   -- by what the pass would be that had the caller, and by its book
   by_next : (next : WalkModel × Next Reply) (seat seat' : Seat (Unit {0}) (SeatView M)) (m : WalkModel) → IsRiding mix t r (Walking m) seat

@@ -1,5 +1,5 @@
 -- A call that is driven from outside its pass: the seat's view has what the caller does, and no machine of the call is kept.
-use Rattle.std.specs.Prelude.{◌≡◌, ℕ, ◌+◌, Bool, true, Option, Some, None, Result, Ok, Err, List, [], ◌∷◌, ◌++◌}
+use Rattle.std.specs.Prelude.{◌≡◌, ℕ, ◌+◌, Bool, true, false, Option, Some, None, Result, Ok, Err, List, [], ◌∷◌, ◌++◌}
 use Rattle.atomic_table.specs.declared.shared.Seat.{Seat}
 use Rattle.rht_words.specs.declared.machine.Next.{Next}
 use Rattle.rht_words.specs.declared.machine.Next.TheVariants.{Go, Done}
@@ -31,7 +31,8 @@ use Rattle.rht_run.specs.declared.table.Table.{Table}
 use Rattle.rht_run.specs.declared.pass.Pass.{Pass}
 use Rattle.rht_run.specs.Passes.{IsPassOf, book_in}
 
--- what stays as it is while a call is driven: the caller, the call, the calls before it, the caller's rooms, which are empty, and its batch
+-- what stays as it is while a call is driven: the caller, the call, the calls before it, the caller's rooms, which are empty, its batch, and
+-- whether it holds its section open
 pub record Riding : Type 0 where
   pub number : ℕ
   pub call : Call
@@ -39,10 +40,11 @@ pub record Riding : Type 0 where
   pub owners : Kept ℕ
   pub pairs : Kept (ℕ × ℕ)
   pub batch : Option BatchModel
+  pub over : Bool
 
 -- a call that is never driven
 abbrev pub any_riding : Riding
-any_riding = record { number = 0; call = Count; finished = []; owners = no_room; pairs = no_room; batch = None }
+any_riding = record { number = 0; call = Count; finished = []; owners = no_room; pairs = no_room; batch = None; over = false }
 
 -- a batch behind a call that took this node out, or none
 abbrev pub batch_with : Option BatchModel → Option ℕ → Option BatchModel
@@ -66,6 +68,10 @@ module _ {M : Type 0} where
   batch_in [] = None
   batch_in (held ∷ rest) = held.local.batch
 
+  abbrev pub over_in : List (Held M) → Bool
+  over_in [] = false
+  over_in (held ∷ rest) = held.local.held
+
   -- how many operations the seat's only caller has made in its call
   abbrev pub steps_in : Seat (Unit {0}) (SeatView M) → ℕ
   steps_in seat = (book_in seat.me.0.held).steps
@@ -79,11 +85,12 @@ module _ {M : Type 0} where
     owners = emptied (owners_in seat.me.0.held);
     pairs = emptied (pairs_in seat.me.0.held);
     batch = batch_in seat.me.0.held;
+    over = over_in seat.me.0.held;
   }
 
   -- the caller, which does this
   abbrev pub riding_local : Riding → Doing M → Local M
-  riding_local r doing = record { doing = doing; owners = r.owners; pairs = r.pairs; batch = r.batch }
+  riding_local r doing = record { doing = doing; owners = r.owners; pairs = r.pairs; batch = r.batch; held = r.over }
 
   -- and a pass that has it
   abbrev pub riding_pass : Riding → Doing M → Seat (Unit {0}) (SeatView M) → Pass M
@@ -98,6 +105,7 @@ pub record IsBefore {M : Type 0} (mix : ℕ → ℕ → ℕ → ℕ) (t : Table 
   pub owners : emptied local.owners ≡ r.owners
   pub pairs : emptied local.pairs ≡ r.pairs
   pub batch : local.batch ≡ r.batch
+  pub over : local.held ≡ r.over
   pub finished : (book_in seat.me.0.held).finished ≡ r.finished
 
 -- the caller of the seat is in the call, and does this

@@ -13,7 +13,7 @@ use Rattle.rht_run.specs.declared.seats.SeatView.{SeatView}
 use Rattle.rht_run.specs.declared.table.Table.{Table}
 use Rattle.rht_run.specs.declared.walking.Walker.{Walker}
 use Rattle.rht_run.specs.Passes.{book_in}
-use Rattle.rht_run.specs.Rides.{Riding, owners_in, pairs_in, batch_in, IsRiding, HasEnded, steps_in}
+use Rattle.rht_run.specs.Rides.{Riding, owners_in, pairs_in, batch_in, over_in, IsRiding, HasEnded, steps_in}
 
 -- what stays as it is in a walk that the seat's caller has begun: its room of owners is empty, and it has none of pairs
 abbrev pub walk_riding : {M : Type 0} → ℕ → Call → Seat (Unit {0}) (SeatView M) → Riding
@@ -24,6 +24,7 @@ walk_riding number call seat = record {
   owners = owners_in seat.me.0.held;
   pairs = pairs_in seat.me.0.held;
   batch = batch_in seat.me.0.held;
+  over = over_in seat.me.0.held;
 }
 
 -- the caller has got its room back, with these pairs

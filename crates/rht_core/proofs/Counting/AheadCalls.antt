@@ -47,7 +47,7 @@ use Rattle.rht_core.proofs.Reasons.UnraisedBinds.{turning-none, locate-none, pro
 use Rattle.rht_stands.specs.StandsFor.{stands_for}
 use Rattle.rht_core.proofs.Machines.JobSteps.{JobStepOf}
 use Rattle.rht_core.proofs.Machines.NeverHeld.{IsUnraised, job-unraised}
-use Rattle.rht_core.proofs.Tracing.TracedJobs.{Performs, StandsIn, LeadsOn, IsAtJob, jobs_keep_standing}
+use Rattle.rht_core.proofs.Tracing.TracedJobs.{step_rests, hard, Performs, StandsIn, LeadsOn, IsAtJob, jobs_keep_standing}
 use Rattle.rht_core.proofs.Tracing.TracedRuns.{world-traced_of}
 use Rattle.rht_core.proofs.Counting.NumbersBelow.{having, having-length, having-among, having-distinct, having-in, having-out}
 use Rattle.rht_core.proofs.Counting.RaisingCallers.{raised_by, is_raising}
@@ -201,7 +201,7 @@ module _ (M : Type 0) (mix : ℕ → ℕ → ℕ → ℕ) (env : Env) (events : 
       (before ∙ bind-keeps env.config.kind performs.caller port owner once _ _ _ _ _ _ performs.step.says p
       (sym after ∙ subst (λ ws. stands_for env.geometry ws p ≡ []) (sym stands.next) none)))
   job_keeps (releases port owner state) steps did performs stands = λ raise.
-      release-none env.geometry env performs.caller state (sym performs.planned ∙ raise)
+      release-none env.geometry env performs.caller state (sym (hard mix env refl performs) ∙ raise)
   job_keeps _ steps did performs stands = tt
 
   -- ---- jobs
@@ -218,7 +218,7 @@ module _ (M : Type 0) (mix : ℕ → ℕ → ℕ → ℕ) (env : Env) (events : 
       → StandsIn mix env words_at job steps did performs → JobShows job steps
       → LeadsOn M mix env JobShows NothingOfEnded job (steps ++ did ∷ []) (job_after mix env job did.old)
   job_goes job steps did performs stands so_far =
-      go (job_after mix env job did.old) (same_call mix env job did.old) performs.step
+      go (job_after mix env job did.old) (same_call mix env job did.old) (step_rests mix env performs stands.rests)
     where
       holds : performs.ghost.raised performs.caller ≡ (held_of job).raised
       holds = performs.knows.knowing.only.raising

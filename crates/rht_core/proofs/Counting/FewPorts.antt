@@ -46,7 +46,7 @@ use Rattle.rht_core.proofs.Events.Invariants.{step_of}
 use Rattle.rht_core.proofs.Events.InvariantRuns.{has_inv}
 use Rattle.rht_core.proofs.Events.JobsOfCallers.{first_tidy-so, each_goes, same_call, first-of}
 use Rattle.rht_core.proofs.Events.Worlds.{induct_by_last, take-push, take-push_all, run_of-push, step_none, step_words}
-use Rattle.rht_core.proofs.Tracing.TracedJobs.{Performs, LeadsOn, IsKeeping, IsAtJob, jobs_keep_own}
+use Rattle.rht_core.proofs.Tracing.TracedJobs.{found_as, Performs, LeadsOn, IsKeeping, IsAtJob, jobs_keep_own}
 use Rattle.rht_core.proofs.Tracing.TracedRuns.{world-traced_of}
 use Rattle.rht_core.proofs.Tracing.TracesInRuns.{remembers}
 use Rattle.rht_core.proofs.Reasons.CausesInRuns.{JobSaw, EndsSeen, job-leads, first_job-saw}
@@ -62,7 +62,7 @@ use Rattle.rht_walk.specs.declared.walk.WalkAt.TheVariants as walks_at
 use Rattle.rht_walk.specs.declared.walk.Visit.{Visit}
 use Rattle.rht_model.specs.declared.history.Cursor.{Cursor}
 use Rattle.rht_core.proofs.Counting.FullTables.{taken}
-use Rattle.rht_core.proofs.Counting.SparedSlots.{IsBesideSlots, SparesSlots, spared_slots, by_load, at_section, other-spares}
+use Rattle.rht_core.proofs.Counting.SparedSlots.{soft-spares, IsBesideSlots, SparesSlots, spared_slots, by_load, at_section, other-spares}
 use Rattle.rht_core.proofs.Histories.BoundAmong.{few-bound, count-few}
 
 -- ---- the words of slots
@@ -219,7 +219,7 @@ module _ (M : Type 0) (mix : ℕ → ℕ → ℕ → ℕ) (env : Env) (roomy : I
     ended-none from limit room state did does now table is =
         let here = subst (λ s. walk.IsWalkAtIn env.geometry s) is does.within in
         none_there did table here
-        (does.found ∙ ap (old_of does.words) (does.planned ∙ ap (walk.plan_at env.geometry does.caller) is)
+        (found_as mix env does ∙ ap (old_of does.words) (ap (walk.plan_at env.geometry does.caller) is)
         ∙ ap (λ w. word_at env.geometry w (Slot table FutureWord)) now)
 
     strange-none : (from : Option Cursor) (limit : ℕ) (room : walk.Pairs) (state : WalkAt) (did : Did)
@@ -228,7 +228,7 @@ module _ (M : Type 0) (mix : ℕ → ℕ → ℕ → ℕ) (env : Env) (roomy : I
     strange-none from limit room state did does now visit is =
         let here = subst (λ s. walk.IsWalkAtIn env.geometry s) is does.within in
         none_there did visit.table here.table_in
-        (does.found ∙ ap (old_of does.words) (does.planned ∙ ap (walk.plan_at env.geometry does.caller) is)
+        (found_as mix env does ∙ ap (old_of does.words) (ap (walk.plan_at env.geometry does.caller) is)
         ∙ ap (λ w. word_at env.geometry w (Slot visit.table FutureWord)) now)
 
     job-calm : (job : Job) (steps : List Did) (did : Did) → (does : Performs mix env job did) → does.words ≡ words_at did.index
@@ -299,7 +299,8 @@ module _ (M : Type 0) (mix : ℕ → ℕ → ℕ → ℕ) (env : Env) (roomy : I
     step-unmade c (Some op) is =
         let has = has_inv env mix M events admitted in
         let of = step_of env mix M w.core has.ghost c op has.all has.inv is in
-        let spares = subst SparesSlots (sym of.plan) (job-spares env mix c of.few of.job of.within (calm-now c of.job of.is)) in
+        let spares = subst SparesSlots (sym of.plan)
+        (soft-spares (local_of w.core c).held (job_plan env c of.job) (job-spares env mix c of.few of.job of.within (calm-now c of.job of.is))) in
         subst (IsNoTableMade env) (sym (step_words M mix w c op is))
         (no_table_kept env w.core.words (applied w.core.words op)
         (λ place low apart other. spared_slots w.core.words op place spares apart) unmade-now)

@@ -4,6 +4,8 @@
 -- The count is the nodes in chains, and the callers that have raised it for a node that they haven't
 -- linked yet or have still to lower it for one that they have taken out. Such a caller stands before
 -- its publishing store, or before its lowering: so it is in a call, and it isn't the one that loads.
+use Rattle.rht_core.proofs.Machines.HeldSteps.{MayHold, soft-none}
+use Rattle.rht_callers.specs.Locals.{soft}
 use Rattle.std.proofs.Common.{◌≡◌, ◌≢◌, ℕ, zero, suc, ◌≤◌, ◌==◌, ◌&&◌, not, Bool, true, false, List, [], ◌∷◌, take, refl, sym, ap, ◌∙◌, arith}
 use Rattle.std.specs.Prelude.{Option, Some, None}
 use Rattle.std.specs.List.{AllByRecursion}
@@ -104,11 +106,15 @@ release_loads-unraised e c place (release_at.Lowering node shape) is = absurd (c
 release_loads-unraised e c place _ is = refl
 
 -- what loads has raised none
-load-unraised : (env : Env) (c : ℕ) (job : Job) (place : ℕ) → job_plan env c job ≡ Load place
+load-unraised : (env : Env) (c : ℕ) (job : Job) (place : ℕ) (over : Bool) → MayHold over job → soft over (job_plan env c job) ≡ Load place
     → (held_of job).raised ≡ false
-load-unraised env c (binds port owner once state) place is = bind_loads-unraised env c place state is
-load-unraised env c (releases port owner state) place is = release_loads-unraised env c place state is
-load-unraised env c job place is = job-unraised job
+load-unraised env c (binds port owner once state) place false may is =
+    bind_loads-unraised env c place state (sym (soft-none (job_plan env c (binds port owner once state))) ∙ is)
+load-unraised env c (releases port owner state) place false may is =
+    release_loads-unraised env c place state (sym (soft-none (job_plan env c (releases port owner state))) ∙ is)
+load-unraised env c (binds port owner once state) place true may is = absurd (cc)
+load-unraised env c (releases port owner state) place true may is = absurd (cc)
+load-unraised env c job place over may is = job-unraised job
 
 module _ (M : Type 0) (mix : ℕ → ℕ → ℕ → ℕ) (env : Env) where
   -- the callers that have raised the count are others in mid-call
@@ -143,7 +149,7 @@ module _ (M : Type 0) (mix : ℕ → ℕ → ℕ → ℕ) (env : Env) where
       let place = place_of env.geometry PortCount in
       let plans : planned_in core c ≡ Some (Load place) = is.plan ∙ ap Some loaded in
       let of = step_of env mix M core G c (Load place) has.all has.inv plans in
-      let unraised = of.knows.knowing.only.raising ∙ load-unraised env c of.job place (sym of.plan) in
+      let unraised = of.knows.knowing.only.raising ∙ load-unraised env c of.job place (local_of core c).held of.may (sym of.plan) in
       let others = raisers-others core c G has.inv.same_env unraised has.inv.each in
       let word : mem env mix core.words PortCount ≡ count =
       sym (ap (old_of core.words) loaded) ∙ is.found ∙ found in

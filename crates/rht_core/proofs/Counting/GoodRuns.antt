@@ -2,10 +2,12 @@
 --
 -- By induction over the events, with the ghost: each job that makes a table has chosen it by the shape of one that was attached, which is good;
 -- so what it attaches is good, and no other move of the ghost attaches any.
+use Rattle.rht_core.proofs.Machines.HeldSteps.{hard-op, soft-old}
 use Rattle.std.proofs.Common.{◌≡◌, ℕ, Bool, List, refl, sym, ap, ◌∙◌, subst}
 use Rattle.std.specs.Prelude.{Option, Some}
 use Rattle.rht_words.specs.declared.op.Op.{Op}
 use Rattle.rht_words.specs.declared.env.Env.{Env}
+use Rattle.rht_ghost.proofs.Pieces.HeldSections.{of_its_own}
 use Rattle.rht_words.specs.Opening.{opening_word}
 use Rattle.rht_words.specs.Operations.{old_of}
 use Rattle.rht_words.specs.Places.{Slot, ShapeWord}
@@ -131,11 +133,11 @@ module _ (env : Env) (Good Fit : ℕ → Type 0) (keeps_works : AreMadeGood env 
             let now = subst Left of.is (has.jobs c) in
             moved-good env mix Good c of.step.move has.ghost has.good
             (λ slot shape seed serial at.
-            let does = subst (λ m. Does env mix m op (old_of w.core.words op) (held_of of.job)
-            (held_next (job_after mix env of.job (old_of w.core.words op)))) at of.step.does in
+            let does = subst (λ m. Does env mix m op (old_of w.core.words op) (of_its_own (local_of w.core c).held (held_of of.job))
+            (of_its_own (local_of w.core c).held (held_next (job_after mix env of.job (old_of w.core.words op))))) at of.step.does in
             let ready = subst (ReadyFor env mix c (mem env mix w.core.words) has.ghost) at of.step.ready in
             attaches-good c (mem env mix w.core.words) has.ghost slot shape ready.made.shape_is of.job of.knows now
-            (job-attaches env c does.last slot does.within of.job does.has (sym of.plan ∙ does.attaching)))
+            (job-attaches env c does.last slot does.within of.job does.has (sym (hard-op (local_of w.core c).held (job_plan env c of.job) _ tt (sym of.plan ∙ does.attaching)))))
 
         -- and the caller
         step-job : planned_in w.core c ≡ Some op → Left (job_of (view_stepped mix (old_of w.core.words op) (view_of w c)).local.doing)
@@ -145,7 +147,8 @@ module _ (env : Env) (Good Fit : ℕ → Type 0) (keeps_works : AreMadeGood env 
             let old = old_of w.core.words op in
             let left = left-job mix env local.doing of.job old (has.all.stays.locals_of c).doing of.is in
             subst Left (sym left)
-            (subst (λ o. Left (told (job_after mix env of.job (old_of w.core.words o))).0) (sym of.plan)
+            (subst (λ o. Left (told (job_after mix env of.job o)).0)
+            (sym (ap (old_of w.core.words) of.plan ∙ soft-old (local_of w.core c).held (job_plan env c of.job) w.core.words))
             (goes-good c w.core.words has.ghost has.inv.whole has.good of.job of.within of.knows (subst Left of.is (has.jobs c))))
 
       event-good : (event : Event) → IsAdmittedEvent event → HasGood (world_step mix w event)

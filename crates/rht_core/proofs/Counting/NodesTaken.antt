@@ -10,6 +10,7 @@ use Rattle.std.proofs.lemmas.Bool.{cases_eq}
 use Rattle.rht_words.specs.declared.op.Op.{Op}
 use Rattle.rht_words.specs.declared.op.Op.TheVariants.{Or}
 use Rattle.rht_words.specs.declared.env.Env.{Env}
+use Rattle.rht_ghost.proofs.Pieces.HeldSections.{of_its_own}
 use Rattle.rht_words.specs.declared.geometry.Geometry.{Geometry}
 use Rattle.rht_words.specs.declared.machine.Next.{Next}
 use Rattle.rht_words.specs.declared.machine.Next.TheVariants.{Go, Done}
@@ -331,11 +332,13 @@ module _ (mix : ℕ → ℕ → ℕ → ℕ) (env : Env) where
     abbrev all : List Did
     all = steps ++ did ∷ []
 
-    took_by : TookNone g h after did ⊎ TookOne g h after did
+    took_by : TookNone g (of_its_own performs.over h) (of_its_own performs.over after) did
+        ⊎ TookOne g (of_its_own performs.over h) (of_its_own performs.over after) did
     took_by =
         let step = performs.step in
-        took env mix step.move did h after
-        (subst (λ old. Does env mix step.move did.op old h after) (sym performs.found) step.does)
+        took env mix step.move did (of_its_own performs.over h) (of_its_own performs.over after)
+        (subst (λ old. Does env mix step.move did.op old (of_its_own performs.over h) (of_its_own performs.over after)) (sym performs.found)
+        step.does)
 
     unknown : after.answer ≡ None → h.answer ≡ None
     unknown none = unknown_before env.config.kind performs.caller (call_of job) _ _ _ _ h.answer after.answer
@@ -381,8 +384,8 @@ module _ (mix : ℕ → ℕ → ℕ → ℕ) (env : Env) where
 
     kept_next : HasKept (call_of job) after all
     kept_next = elim took_by [
-      | inl none_now ↦ kept_still none_now
-      | inr one ↦ kept_one one
+      | inl none_now ↦ kept_still (record { none = none_now.none; left = none_now.left })
+      | inr one ↦ kept_one (record { node = one.node; before = one.before; now = one.now; takes = one.takes })
     ]
 
   -- a call that ends has taken the node of which it tells

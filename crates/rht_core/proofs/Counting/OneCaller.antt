@@ -4,6 +4,7 @@
 -- bind that hasn't found a table full, or of another kind. A bind knows the table in which it is. So no bucket is missing there; and where it
 -- loads the count, that is at most the 15 ports and the one caller, and the table has 16 buckets or more. So it finds no table full and attaches
 -- none; and a resizing attaches none that is smaller, or nested.
+use Rattle.rht_core.proofs.Machines.HeldSteps.{hard-op, soft-old}
 use Rattle.std.proofs.Common.{◌≡◌, ℕ, ◌<◌, ◌≤◌, Bool, false, nat_lt, List, [], ◌∷◌, ◌++◌, length, take, refl, sym, ap, ◌∙◌, subst, inl, inr, arith}
 use Rattle.std.specs.Prelude.{Option, Some, IfSome, option_map}
 use Rattle.std.specs.List.{AllByRecursion}
@@ -12,6 +13,7 @@ use Rattle.std.proofs.lemmas.List.{take_all}
 use Rattle.rht_words.specs.declared.op.Op.{Op}
 use Rattle.rht_words.specs.declared.op.Op.TheVariants.{Exchange}
 use Rattle.rht_words.specs.declared.env.Env.{Env}
+use Rattle.rht_ghost.proofs.Pieces.HeldSections.{of_its_own}
 use Rattle.rht_words.specs.declared.machine.Next.{Next}
 use Rattle.rht_words.specs.declared.machine.Next.TheVariants.{Go, Done}
 use Rattle.rht_words.specs.Links.{future_of}
@@ -69,7 +71,7 @@ use Rattle.rht_core.proofs.Events.KeptAtEvents.{views_kept, ghosts_kept}
 use Rattle.rht_core.proofs.Events.JobsOfCallers.{first_tidy-so, each_goes, same_call, left-job, doing_after-reply, first-of}
 use Rattle.rht_core.proofs.Events.RangesInRuns.{AllIn, opens-all, event-all}
 use Rattle.rht_core.proofs.Events.Worlds.{induct_by_last, run_of-push}
-use Rattle.rht_core.proofs.Tracing.TracedJobs.{Performs, IsAtJob, jobs_keep_own}
+use Rattle.rht_core.proofs.Tracing.TracedJobs.{found_as, Performs, IsAtJob, jobs_keep_own}
 use Rattle.rht_core.proofs.Tracing.TracedRuns.{world-traced_of}
 use Rattle.rht_core.proofs.Reasons.CausesInRuns.{JobSaw, EndsSeen, job-leads, first_job-saw}
 use Rattle.rht_core.proofs.Reasons.CalmCalls.{below-max, below-size}
@@ -176,7 +178,7 @@ module _ (env : Env) where
           let does = here.does in
           let aim = subst (λ s. AimMeans env mix does.ghost (last_aim s)) shape does.knows.knowing.means.work.more.aim_is in
           let found : did.old ≡ old_of does.words (last_table_plan_at seek.geometry seek.at) =
-          does.found ∙ ap (old_of does.words) does.planned in
+          found_as mix env does in
           subst IsSized (sym (found ∙ ap (λ s. old_of does.words (last_table_plan_at seek.geometry s)) shape))
           (slot-good env mix IsSized does.words does.ghost does.whole here.sized slot aim.at)
 
@@ -272,7 +274,9 @@ module _ (L : Type 0) (mix : ℕ → ℕ → ℕ → ℕ) (env : Env) (keeps : e
 
       performs : Performs mix env of.job did
       performs = record {
+        over = (local_of w.core c).held;
         planned = of.plan;
+        may = of.may;
         caller = c;
         words = w.core.words;
         ghost = has.ghost;
@@ -282,6 +286,7 @@ module _ (L : Type 0) (mix : ℕ → ℕ → ℕ → ℕ) (env : Env) (keeps : e
         whole = has.inv.whole;
         within = of.within;
         knows = of.knows;
+        is_open = of.is_open;
         found = refl;
         step = of.step;
       }
@@ -328,11 +333,11 @@ module _ (L : Type 0) (mix : ℕ → ℕ → ℕ → ℕ) (env : Env) (keeps : e
         let one = subst (λ (j : Option Job). IfSome j (OneJob env keeps)) of.is (has.ones c).0 in
         moved-good env mix IsSized c of.step.move has.ghost has.sized
         (λ slot shape seed serial at.
-        let does = subst (λ m. Does env mix m op (old_of w.core.words op) (held_of of.job)
-        (held_next (job_after mix env of.job (old_of w.core.words op)))) at of.step.does in
+        let does = subst (λ m. Does env mix m op (old_of w.core.words op) (of_its_own (local_of w.core c).held (held_of of.job))
+        (of_its_own (local_of w.core c).held (held_next (job_after mix env of.job (old_of w.core.words op))))) at of.step.does in
         let ready = subst (ReadyFor env mix c (mem env mix w.core.words) has.ghost) at of.step.ready in
         attach-sized env keeps mix c of.few (mem env mix w.core.words) has.ghost of.job of.within of.knows one does.last slot shape
-        does.within does.has (sym of.plan ∙ does.attaching) ready.made.shape_is)
+        does.within does.has (sym (hard-op (local_of w.core c).held (job_plan env c of.job) _ tt (sym of.plan ∙ does.attaching))) ready.made.shape_is)
 
     -- ---- one event
 

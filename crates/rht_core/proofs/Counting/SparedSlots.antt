@@ -1,9 +1,11 @@
 -- Which operations leave the words of all slots, of the current table and of the next serial: loads, and those on the work lock, on the
 -- count of ports, on section words, and on words behind the slots. Look-ups, listings, releases and rebinds have no other; nor have the
 -- pieces of a bind but the making of a table.
-use Rattle.std.proofs.Common.{◌≡◌, ◌⊎◌, ◌+◌, ℕ, false, ◌<◌, ◌≤◌, List, get_or, refl, sym, ap, subst, inl, inr, arith}
+use Rattle.rht_callers.specs.Locals.{turns_section, soft}
+use Rattle.std.proofs.Common.{◌≡◌, ◌⊎◌, ◌+◌, ◌&&◌, ℕ, Bool, false, ◌<◌, ◌≤◌, List, get_or, refl, sym, ap, subst, inl, inr, arith}
+use Rattle.std.proofs.lemmas.Bool.{cond_both}
 use Rattle.rht_words.specs.declared.op.Op.{Op}
-use Rattle.rht_words.specs.declared.op.Op.TheVariants.{Load, Exchange}
+use Rattle.rht_words.specs.declared.op.Op.TheVariants.{Load, Store, Exchange, Add, Sub, And, Or}
 use Rattle.rht_words.specs.declared.env.Env.{Env}
 use Rattle.rht_words.specs.declared.geometry.Geometry.{Geometry}
 use Rattle.rht_words.specs.Operations.{op_place, old_of, word_after, applied}
@@ -75,6 +77,17 @@ IsBesideSlots place = (place ≡ 1) ⊎ (place ≡ 2) ⊎ ((8 ≤ place) × (pla
 -- the operation is a load, or on such a place
 abbrev pub SparesSlots : Op → Type 0
 SparesSlots op = ((place : ℕ) × (op ≡ Load place)) ⊎ IsBesideSlots (op_place op)
+
+-- so does what is made of it in a hold
+pub soft-spares : (over : Bool) (op : Op) → SparesSlots op → SparesSlots (soft over op)
+soft-spares over (Add place by) spares =
+    cond_both (turns_section place by && over) _ _ SparesSlots (λ t. inl (place, refl)) (λ f. spares)
+soft-spares over (Load place) spares = spares
+soft-spares over (Store place value) spares = spares
+soft-spares over (Exchange place old new) spares = spares
+soft-spares over (Sub place by) spares = spares
+soft-spares over (And place mask) spares = spares
+soft-spares over (Or place mask) spares = spares
 
 -- it leaves each other word
 pub spared_slots : (words : List ℕ) (op : Op) (place : ℕ) → SparesSlots op → (IsBesideSlots place → ⊥)

@@ -1,11 +1,14 @@
 -- What one operation makes of the draws of serials: it draws one for its caller, or attaches the caller's table, which has the caller's
 -- draw from then on, or leaves all draws.
+use Rattle.rht_callers.specs.Locals.{soft}
+use Rattle.rht_core.proofs.Machines.HeldSteps.{soft-none}
 use Rattle.std.proofs.Common.{◌≡◌, ◌≢◌, ℕ, suc, ◌+◌, ◌%◌, ◌^◌, ◌<◌, ◌⊎◌, cond, refl, sym, ap, ◌∙◌, subst, inl, inr, arith}
 use Rattle.std.specs.Prelude.{Option, Some, None, ◌==◌}
 use Rattle.std.proofs.lemmas.Bool.{eq-eqb, ne_eqb}
 use Rattle.rht_words.specs.declared.op.Op.{Op}
 use Rattle.rht_words.specs.declared.op.Op.TheVariants.{Add}
 use Rattle.rht_words.specs.declared.env.Env.{Env}
+use Rattle.rht_ghost.proofs.Pieces.HeldSections.{of_its_own}
 use Rattle.rht_words.specs.Operations.{op_place, old_of, word_after, applied}
 use Rattle.rht_words.specs.Places.{NextSerial, Slot, SerialWord}
 use Rattle.rht_words.proofs.Memory.{Memory, is_write}
@@ -139,13 +142,16 @@ module _ (env : Env) (mix : ℕ → ℕ → ℕ → ℕ) where
             (is_write env.geometry w.core.words NextSerial op of.all tt (ap op_place adds)).same
             ∙ ap (word_after (M NextSerial)) adds
 
+        plan_rests : op ≡ job_plan env c of.job
+        plan_rests = of.plan ∙ ap (λ over. soft over (job_plan env c of.job)) (has.inv.rests c) ∙ soft-none (job_plan env c of.job)
+
         -- what is left of the job
         on : (now : Option ℕ) → (DrawsJob of.job → IsOfDraw now (M NextSerial))
             → (IsMakingJob of.job → (DrawsJob of.job → ⊥) → now ≡ has.of_caller c)
             → DrawnLeft after now (told (job_after mix env of.job (old_of w.core.words op))).0
         on now draws_so same =
             subst (λ o. DrawnLeft (mem env mix (applied w.core.words o)) now (told (job_after mix env of.job (old_of w.core.words o))).0)
-            (sym of.plan)
+            (sym plan_rests)
             (job-on env mix c w.core.words of.all (has.of_caller c) now of.job of.within
             (λ d. subst (IsOfDraw now) (sym (ap (old_of w.core.words) (job-adds env c of.job d))) (draws_so d)) same
             (subst (DrawnLeft M (has.of_caller c)) of.is (has.jobs c)))
@@ -153,12 +159,12 @@ module _ (env : Env) (mix : ℕ → ℕ → ℕ → ℕ) where
         -- the caller's table is attached
         attach-draws : IsAttach of.step.move → StepDraws
         attach-draws at =
-            let does = subst (λ m. Does env mix m op (old_of w.core.words op) (held_of of.job)
-            (held_next (job_after mix env of.job (old_of w.core.words op)))) at.is of.step.does in
+            let does = subst (λ m. Does env mix m op (old_of w.core.words op) (of_its_own (local_of w.core c).held (held_of of.job))
+            (of_its_own (local_of w.core c).held (held_next (job_after mix env of.job (old_of w.core.words op))))) at.is of.step.does in
             let ready = subst (ReadyFor env mix c M has.ghost) at.is of.step.ready in
-            let there = job-attaches env c does.last at.slot does.within of.job does.has (sym of.plan ∙ does.attaching) in
+            let there = job-attaches env c does.last at.slot does.within of.job does.has (sym plan_rests ∙ does.attaching) in
             let same : after NextSerial ≡ M NextSerial = elim (job-draws env c mix of.few of.job of.within) [
-              | inl spares ↦ spared_serial w.core.words op (subst SparesSerial (sym of.plan) spares)
+              | inl spares ↦ spared_serial w.core.words op (subst SparesSerial (sym plan_rests) spares)
               | inr draws_it ↦ absurd (attaching-draws at.slot of.job there draws_it)
             ] in
             go at ready.serial_is there same (has.of_caller c) refl
@@ -196,7 +202,7 @@ module _ (env : Env) (mix : ℕ → ℕ → ℕ → ℕ) where
         quiet-draws : SameSerials has.ghost G' → StepDraws
         quiet-draws tables = elim (job-draws env c mix of.few of.job of.within) [
           | inl spares ↦
-              let same = spared_serial w.core.words op (subst SparesSerial (sym of.plan) spares) in
+              let same = spared_serial w.core.words op (subst SparesSerial (sym plan_rests) spares) in
               record {
                 count = drawn;
                 counts = none-counted same;
@@ -211,11 +217,11 @@ module _ (env : Env) (mix : ℕ → ℕ → ℕ → ℕ) where
                     (λ making none. refl);
               }
           | inr draws_it ↦
-              let adds = added (of.plan ∙ job-adds env c of.job draws_it) in
+              let adds = added (plan_rests ∙ job-adds env c of.job draws_it) in
               record {
                 count = drawn + 1;
                 counts = one-counted adds;
-                by = inr (refl, of.plan ∙ job-adds env c of.job draws_it);
+                by = inr (refl, plan_rests ∙ job-adds env c of.job draws_it);
                 of_table = has.of_table;
                 of_caller = put has.of_caller c (Some drawn);
                 drawn_are =

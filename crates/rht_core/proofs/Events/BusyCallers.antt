@@ -1,8 +1,9 @@
 -- A caller in a call: it plans an operation, one that begins with a call is in it, and it leaves the call exactly where its
 -- operation has given the call a reply.
 use Rattle.std.proofs.Common.{◌≡◌, ℕ, true, false, refl, subst}
-use Rattle.std.specs.Prelude.{Option, Some, None, MatchOption}
+use Rattle.std.specs.Prelude.{Option, Some, None, MatchOption, option_map}
 use Rattle.rht_words.specs.declared.env.Env.{Env}
+use Rattle.rht_words.specs.declared.op.Op.{Op}
 use Rattle.rht_words.specs.declared.machine.Next.{Next}
 use Rattle.rht_words.specs.declared.machine.Next.TheVariants.{Go, Done}
 use Rattle.rht_model.specs.declared.history.Call.{Call}
@@ -18,7 +19,7 @@ use Rattle.rht_callers.specs.PortCounts.{count_after}
 use Rattle.rht_callers.specs.declared.local.Local.{Local}
 use Rattle.rht_callers.specs.declared.local.Doing.{Doing}
 use Rattle.rht_callers.specs.declared.local.Doing.TheVariants.{Idle, Finding, Binding, Releasing, Rebinding, Listing, Working, Counting, Tidying, Walking}
-use Rattle.rht_callers.specs.Locals.{does_nothing, is_idle, machine_from, doing_plan, plan_of, doing_next, doing_after, local_after, without_node}
+use Rattle.rht_callers.specs.Locals.{does_nothing, is_idle, machine_from, doing_plan, soft, plan_of, doing_next, doing_after, local_after, without_node}
 use Rattle.rht_grace.specs.Tidy.{tidy_after}
 use Rattle.rht_walk.specs.Walk.{walk_after}
 use Rattle.rht_callers.proofs.CallBeginnings.{begins_so}
@@ -30,7 +31,11 @@ module _ (M : Type 0) where
   doing_plans _ busy none = absurd (cc)
 
   pub busy_plans : (local : Local M) → is_idle local ≡ false → plan_of local ≡ None → ⊥
-  busy_plans local busy none = doing_plans local.doing busy none
+  busy_plans local busy none = go (doing_plan local.doing) refl none
+    where
+      go : (planned : Option Op) → doing_plan local.doing ≡ planned → option_map (soft local.held) planned ≡ None → ⊥
+      go None is none = doing_plans local.doing busy is
+      go (Some op) is none = absurd (cc)
 
   -- who begins is in a call
   pub begun_busy : (env : Env) (c : ℕ) (batch : Option BatchModel) (start : ℕ) (call : Call) (machine : Doing M) → machine_from env c batch call start ≡ Some machine

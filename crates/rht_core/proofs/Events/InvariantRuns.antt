@@ -1,5 +1,5 @@
 -- The invariant holds at opening, and so after each event of each run whose events are admitted.
-use Rattle.std.proofs.Common.{◌≡◌, ℕ, ◌+◌, ◌*◌, ◌/◌, ◌<◌, ◌≤◌, List, [], replicate, true, false, refl, sym, ap, ◌∙◌, subst, inl, inr, arith, ◌≢◌, ◌⊎◌, ◌↔◌, ◌%◌, max, cond, nat_lt}
+use Rattle.std.proofs.Common.{◌≡◌, ℕ, ◌+◌, ◌*◌, ◌/◌, ◌%◌, ◌<◌, ◌≤◌, List, [], replicate, true, false, refl, sym, ap, ◌∙◌, subst, inl, inr, arith, ◌≢◌, ◌⊎◌, ◌↔◌, ◌%◌, max, cond, nat_lt}
 use Rattle.std.specs.Prelude.{Some, None}
 use Rattle.std.specs.Int.{bit_at}
 use Rattle.std.proofs.lemmas.Bool.{cases_eq, cases_lt, lt-ltb, le-ltb, ne_eqb}
@@ -21,6 +21,8 @@ use Rattle.rht_core.proofs.Events.RangesInRuns.{AllIn, opens-all, event-all}
 use Rattle.rht_ghost.proofs.Theory.Ghosts.{Free, is_taken_by, Ghost, Table, PageOf, SlotFree, Live, Back, is_first, has_table, table_of_slot, slot_holder, put, put-same, put-other, blank_bucket, PageOwner, PageFree, PageHeld, state_word, put-all, Row, is_entry, is_entry_of}
 use Rattle.rht_ghost.proofs.Theory.Wholes.{Whole, TableRight, PagesRight, IsThere, live-there}
 use Rattle.rht_ghost.proofs.Theory.Steps.{mem}
+use Rattle.rht_core.specs.Jobs.{job_of}
+use Rattle.rht_core.proofs.Events.SectionMoves.{odd_by, is_inside}
 use Rattle.rht_core.proofs.Events.Invariants.{Inv, kept}
 
 -- the first table, which stands in slot 0 and has its buckets in a row from the first page on
@@ -270,6 +272,11 @@ module _ (env : Env) (mix : ℕ → ℕ → ℕ → ℕ) where
         many = count_below-none (λ n. is_taken_by c Free) env.geometry.nodes (λ n l. refl);
         answered = tt;
       });
+      right = λ c low.
+          ap (λ w. w % 2) ((stand_in_place env).each (Section c) low)
+          ∙ sym (ap (λ (local : Local L). odd_by (is_inside env mix local)) (idle_at_opening c));
+      holds = λ c. rw (idle_at_opening c) tt;
+      rests = λ c. rw (idle_at_opening c) refl;
     }
 
     -- the invariant, with some ghost, and all that is in range

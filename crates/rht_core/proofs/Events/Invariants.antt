@@ -2,19 +2,20 @@
 -- nodes that its calls took out.
 -- An operation of a caller keeps the whole and leads to what its next state says, and everybody else still knows what it knew.
 use Rattle.std.proofs.Common.{◌≡◌, ◌≢◌, ℕ, ◌+◌, refl, sym, ◌∙◌, subst, inl, inr}
-use Rattle.std.specs.Prelude.{Option, Some, None}
+use Rattle.std.specs.Prelude.{Option, Some, None, false}
 use Rattle.std.proofs.lemmas.Bool.{cases_eq}
 use Rattle.std.proofs.lemmas.List.{get_or-set_same, get_or-set_other}
 use Rattle.rht_words.specs.declared.op.Op.{Op}
 use Rattle.rht_words.specs.declared.env.Env.{Env}
 use Rattle.rht_words.specs.Operations.{old_of, word_after, applied}
-use Rattle.rht_words.specs.Places.{EnrolledCallers, word_at}
+use Rattle.rht_words.specs.Places.{EnrolledCallers, Section, word_at}
 use Rattle.rht_words.proofs.Memory.{is_write}
 use Rattle.rht_words.proofs.EachElement.{each_set}
 use Rattle.rht_model.specs.declared.history.Call.{Call}
 use Rattle.rht_core.specs.declared.event.Event.{Event}
 use Rattle.rht_core.specs.declared.event.Event.TheVariants.{Enroll, Begin}
 use Rattle.rht_core.specs.declared.event.Event.TheVariants as events
+use Rattle.rht_callers.specs.declared.local.Local.{Local}
 use Rattle.rht_callers.specs.declared.local.Doing.{Doing}
 use Rattle.rht_callers.specs.Locals.{fresh, begin_with, local_after}
 use Rattle.rht_core.specs.Runs.{Core, local_of, beginning_in, planned_in, enrolling, core_step}
@@ -32,8 +33,9 @@ use Rattle.rht_ghost.proofs.Theory.Steps.{mem, ghost_after, other_sections}
 use Rattle.rht_ghost.proofs.Moves.Quiet.{aside}
 use Rattle.rht_core.proofs.Events.TidiedNodes.{given_of, given_next}
 use Rattle.rht_core.proofs.Events.OwnBatches.{BatchRight, idle-owns, begun-right, stepped-right, stepped-given, others-right}
-use Rattle.rht_core.proofs.Events.StepsOfCallers.{Knows-rely, knows-told, begun_knows, step_from}
-pub use Rattle.rht_core.proofs.Events.StepsOfCallers.{Knows, StepOf, idle_knows, others_outs}
+use Rattle.rht_core.proofs.Events.SectionMoves.{AreRight, is_inside, open_as, step_right, begin_right, enroll_right}
+use Rattle.rht_core.proofs.Events.StepsOfCallers.{Knows-rely, knows-told, begun_knows, begun_holds, step_from, holds-told}
+pub use Rattle.rht_core.proofs.Events.StepsOfCallers.{Knows, StepOf, MayHoldAs, idle_knows, others_outs}
 
 module _ (env : Env) (mix : ℕ → ℕ → ℕ → ℕ) where
   module _ (L : Type 0) where
@@ -43,12 +45,17 @@ module _ (env : Env) (mix : ℕ → ℕ → ℕ → ℕ) where
       pub whole : Whole env mix (mem env mix core.words) G
       pub each : (c : ℕ) → Knows env mix c (job_of (local_of core c).doing) (mem env mix core.words) G
       pub batches : (c : ℕ) → BatchRight env mix L G c (local_of core c)
+      pub right : AreRight env mix L core
+      pub holds : (c : ℕ) → MayHoldAs (local_of core c).held (job_of (local_of core c).doing)
+      pub rests : (c : ℕ) → (local_of core c).held ≡ false
 
     -- the operation that a caller plans is a step
     pub step_of : (core : Core L) (G : Ghost) (c : ℕ) (op : Op) → AllIn L mix env core → Inv core G
         → planned_in core c ≡ Some op
         → StepOf env mix L core G c op
-    step_of core G c op sound inv is = step_from env mix L core G c op sound inv.whole (inv.each c) is
+    step_of core G c op sound inv is = step_from env mix L core G c op sound inv.whole (inv.each c)
+        (λ low. open_as env mix (is_inside env mix (local_of core c)) (G.from c) (word_at env.geometry core.words (Section c))
+        (inv.whole.sections.words c low) (inv.right c low)) (inv.holds c) is
 
     -- ---- one event
 
@@ -88,7 +95,7 @@ module _ (env : Env) (mix : ℕ → ℕ → ℕ → ℕ) where
         → AllIn L mix env core → Inv core G → beginning_in core c call start ≡ machine → Kept core G (Begin c call start)
     begin_kept core G c call start None sound inv is = record {
       ghost = G;
-      inv = rw is (record { same_env = inv.same_env; whole = inv.whole; each = inv.each; batches = inv.batches });
+      inv = rw is (record { same_env = inv.same_env; whole = inv.whole; each = inv.each; batches = inv.batches; right = inv.right; holds = inv.holds; rests = inv.rests });
       outs_kept = λ k. refl;
       ghost_kept = refl;
     }
@@ -108,6 +115,13 @@ module _ (env : Env) (mix : ℕ → ℕ → ℕ → ℕ) where
                 (begin_with (local_of core c) machine) place knows inv.each;
             batches = each_set (BatchRight env mix L G) (fresh core.env) core.locals c (begin_with (local_of core c) machine) place
                 (begun-right env mix L core G c call start machine sound is (inv.batches c)) inv.batches;
+            right = begin_right env mix L core c call start machine sound is inv.right;
+            holds = each_set (λ k (local : Local L). MayHoldAs local.held (job_of local.doing)) (fresh core.env) core.locals c
+                (begin_with (local_of core c) machine) place
+                (begun_holds env mix L (local_of core c).held c (local_of core c).batch start call machine
+                (made_in L mix env core c call start machine sound.stays can) can.may) inv.holds;
+            rests = each_set (λ k (local : Local L). local.held ≡ false) (fresh core.env) core.locals c
+                (begin_with (local_of core c) machine) place (inv.rests c) inv.rests;
           });
           outs_kept = λ k. refl;
           ghost_kept = refl;
@@ -117,7 +131,7 @@ module _ (env : Env) (mix : ℕ → ℕ → ℕ → ℕ) where
         → planned_in core c ≡ plan → Kept core G (events.Step c)
     step_kept core G c None sound inv is = record {
       ghost = G;
-      inv = rw is (record { same_env = inv.same_env; whole = inv.whole; each = inv.each; batches = inv.batches });
+      inv = rw is (record { same_env = inv.same_env; whole = inv.whole; each = inv.each; batches = inv.batches; right = inv.right; holds = inv.holds; rests = inv.rests });
       outs_kept = record {
         others = λ k ne. refl;
         none = λ none. refl;
@@ -156,6 +170,10 @@ module _ (env : Env) (mix : ℕ → ℕ → ℕ → ℕ) where
               | inr ne ↦ rw (get_or-set_other core.locals c k next (fresh core.env) ne)
                   (others-right env mix L core G c op of k (local_of core k) ne (inv.batches k))
             ];
+            right = step_right env mix L core G c op sound is of inv.right;
+            holds = each_set (λ k (local : Local L). MayHoldAs local.held (job_of local.doing)) (fresh core.env) core.locals c next place
+                (subst (MayHoldAs (local_of core c).held) (sym left) (holds-told env mix (local_of core c).held of.job old of.may)) inv.holds;
+            rests = each_set (λ k (local : Local L). local.held ≡ false) (fresh core.env) core.locals c next place (inv.rests c) inv.rests;
           });
           outs_kept = record {
             others = λ k ne. others_outs env mix L k (mem env mix core.words) M' G G' (step.made.others k ne);
@@ -211,6 +229,9 @@ module _ (env : Env) (mix : ℕ → ℕ → ℕ → ℕ) where
             each = λ k. Knows-rely env mix k (job_of (local_of core k).doing) (mem env mix core.words) M' G G
                 inv.whole refl (kept.1 k) (inv.each k);
             batches = inv.batches;
+            right = enroll_right env mix L core sound inv.right;
+            holds = inv.holds;
+            rests = inv.rests;
           };
           outs_kept = λ k. refl;
           ghost_kept = refl;

@@ -31,7 +31,7 @@ use Rattle.rht_grace.specs.Tidy.{TidyModel}
 use Rattle.rht_grace.specs.declared.tidy.TidyAt.{TidyAt}
 use Rattle.rht_callers.specs.declared.local.Doing.{Doing}
 use Rattle.rht_callers.specs.declared.local.Doing.TheVariants.{Idle, Finding, Binding, Releasing, Rebinding, Listing, Working, Counting, Tidying, Walking}
-use Rattle.rht_callers.specs.Locals.{fresh, does_nothing, machine_from, doing_plan, doing_after, owners_after, room_given, pairs_after, pairs_given, local_after, ending_of, doing_next, without_node, IsDoingOf, IsLocalOf}
+use Rattle.rht_callers.specs.Locals.{fresh, does_nothing, machine_from, doing_plan, soft, plan_of, doing_after, owners_after, room_given, pairs_after, pairs_given, local_after, ending_of, doing_next, without_node, IsDoingOf, IsLocalOf}
 use Rattle.rht_core.specs.Laws.{IsDoingIn}
 use Rattle.rht_core.specs.Jobs.{listing_ending, node_ending, Job, finds, binds, releases, rebinds, lists, works, tidies, tidying, tidied, walks, walk_ending, walk_gone, counts, call_of, first_job, first_tidy, job_plan, job_after, job_next, job_of, told, held_of, IsFirstJob}
 use Rattle.rht_release.specs.Release as release
@@ -194,42 +194,59 @@ module _ {M : Type 0} where
 
   -- ---- an operation
 
-  -- what this caller plans is its job's operation, in the table of the run
-  pub record PlansJob (env : Env) (c : ℕ) (doing : Doing M) (op : Op) : Type 0 where
-    pub job : Job
-    pub does : job_of doing ≡ Some job
-    pub plan : op ≡ job_plan env c job
+  -- what this machine plans is its job's operation, in the table of the run
+  record PlansJobOf (env : Env) (c : ℕ) (doing : Doing M) (op : Op) : Type 0 where
+    job : Job
+    does : job_of doing ≡ Some job
+    plan : op ≡ job_plan env c job
 
   plans-so : (env : Env) (c : ℕ) (doing : Doing M) (op : Op) (job : Job) (own : Env) (caller : ℕ) → job_of doing ≡ Some job
       → doing_plan doing ≡ Some (job_plan own caller job) → own ≡ env → caller ≡ c → doing_plan doing ≡ Some op
-      → PlansJob env c doing op
+      → PlansJobOf env c doing op
   plans-so env c doing op job own caller does planned of mine plan =
       let here : op ≡ job_plan own caller job = let both = sym plan ∙ planned in cc in
       let owned = subst (λ (e : Env). op ≡ job_plan e caller job) of here in
       record { job = job; does = does; plan = subst (λ d. op ≡ job_plan env d job) mine owned }
 
-  pub plan-job : (env : Env) (c : ℕ) (doing : Doing M) (op : Op) → IsDoingIn env c doing → doing_plan doing ≡ Some op
-      → PlansJob env c doing op
-  plan-job env c Idle op within plan = absurd (cc)
-  plan-job env c (Finding m) op within plan =
+  machine-job : (env : Env) (c : ℕ) (doing : Doing M) (op : Op) → IsDoingIn env c doing → doing_plan doing ≡ Some op
+      → PlansJobOf env c doing op
+  machine-job env c Idle op within plan = absurd (cc)
+  machine-job env c (Finding m) op within plan =
       plans-so env c (Finding m) op (finds m.port m.at) m.env m.caller refl refl within.same_env within.same_caller plan
-  plan-job env c (Binding m) op within plan =
+  machine-job env c (Binding m) op within plan =
       plans-so env c (Binding m) op (binds m.port m.owner m.once m.at) m.env m.caller refl refl within.same_env within.same_caller plan
-  plan-job env c (Listing m) op within plan =
+  machine-job env c (Listing m) op within plan =
       plans-so env c (Listing m) op (lists m.port m.room m.at) m.env m.caller refl refl within.same_env within.same_caller plan
-  plan-job env c (Releasing m) op within plan =
+  machine-job env c (Releasing m) op within plan =
       plans-so env c (Releasing m) op (releases m.port m.owner m.at) m.env m.caller refl refl within.same_env within.same_caller plan
-  plan-job env c (Rebinding m) op within plan =
+  machine-job env c (Rebinding m) op within plan =
       plans-so env c (Rebinding m) op (rebinds m.port m.owner m.new_owner m.at) m.env m.caller refl refl
       within.same_env within.same_caller plan
-  plan-job env c (Working m) op within plan =
+  machine-job env c (Working m) op within plan =
       plans-so env c (Working m) op (works m.at) m.env m.caller refl refl within.same_env within.same_caller plan
-  plan-job env c (Tidying m) op within plan =
+  machine-job env c (Tidying m) op within plan =
       let here : op ≡ tidy.plan_at m.geometry m.batch m.at = let both = sym plan in cc in
       record { job = tidies m.batch m.at; does = refl; plan = here ∙ ap (λ g. tidy.plan_at g m.batch m.at) within.same_geometry }
-  plan-job env c (Walking m) op within plan =
+  machine-job env c (Walking m) op within plan =
       plans-so env c (Walking m) op (walks m.from m.limit m.room m.at) m.env m.caller refl refl within.same_env within.same_caller plan
-  plan-job env c (Counting m) op within plan = plans-so env c (Counting m) op counts m.env c refl refl within refl plan
+  machine-job env c (Counting m) op within plan = plans-so env c (Counting m) op counts m.env c refl refl within refl plan
+
+  -- what a caller plans is that operation, which loads the word where it would turn a section that the caller holds open
+  pub record PlansJob (env : Env) (c : ℕ) (local : Local M) (op : Op) : Type 0 where
+    pub job : Job
+    pub does : job_of local.doing ≡ Some job
+    pub plan : op ≡ soft local.held (job_plan env c job)
+
+  pub plan-job : (env : Env) (c : ℕ) (local : Local M) (op : Op) → IsDoingIn env c local.doing → plan_of local ≡ Some op
+      → PlansJob env c local op
+  plan-job env c local op within plan = go (doing_plan local.doing) refl plan
+    where
+      go : (planned : Option Op) → doing_plan local.doing ≡ planned → option_map (soft local.held) planned ≡ Some op → PlansJob env c local op
+      go None is plan = absurd (cc)
+      go (Some own) is plan =
+          let of = machine-job env c local.doing own within is in
+          let same : op ≡ soft local.held own = let both = sym plan in cc in
+          record { job = of.job; does = of.does; plan = same ∙ ap (soft local.held) of.plan }
 
   module _ (local : Local M) (none : HasNoLists local) where
     -- the job that a caller has after this has become of what it does and of its rooms, and how its call has

@@ -3,7 +3,7 @@
 -- It holds at opening, where every caller is idle and the words are small. An admitted call begins in range, and each machine
 -- stays in range whatever word it is told; so what it stores is a word, and it is told words. Since no machine plans an
 -- operation on the word of the enrolled callers, an Enroll alone changes that word.
-use Rattle.std.proofs.Common.{◌≡◌, ℕ, ◌-◌, ◌*◌, ◌<◌, List, length, min, refl, sym, ap, subst, ◌∙◌, inl, inr, arith}
+use Rattle.std.proofs.Common.{Bool, ◌&&◌, ◌≡◌, ℕ, ◌-◌, ◌*◌, ◌<◌, List, length, min, refl, sym, ap, subst, ◌∙◌, inl, inr, arith}
 use Rattle.std.specs.Prelude.{Option, Some, None, ◌==◌}
 use Rattle.std.specs.List.{AllByRecursion}
 use Rattle.std.proofs.Math.Pow.{pow_mono}
@@ -11,6 +11,7 @@ use Rattle.std.proofs.lemmas.Bool.{cases_lt, cond_both}
 use Rattle.std.proofs.lemmas.List.{get_or_past, length-replicate}
 use Rattle.std.proofs.lemmas.Nat.{trailing_le}
 use Rattle.rht_words.specs.declared.op.Op.{Op}
+use Rattle.rht_words.specs.declared.op.Op.TheVariants.{Load, Store, Exchange, Add, Sub, And, Or}
 use Rattle.rht_words.specs.declared.env.Env.{Env}
 use Rattle.rht_words.specs.declared.geometry.Geometry.{Geometry}
 use Rattle.rht_words.specs.Operations.{old_of}
@@ -58,7 +59,7 @@ use Rattle.rht_callers.specs.PortCounts.{count_plan_in}
 use Rattle.rht_callers.specs.declared.local.Local.{Local}
 use Rattle.rht_callers.specs.declared.local.Doing.{Doing}
 use Rattle.rht_callers.specs.declared.local.Doing.TheVariants.{Idle, Finding, Binding, Releasing, Rebinding, Listing, Working, Counting, Tidying, Walking}
-use Rattle.rht_callers.specs.Locals.{fresh, machine_from, begin_with, plan_of, doing_next, doing_after, local_after, owners_room, without_node}
+use Rattle.rht_callers.specs.Locals.{fresh, machine_from, turns_section, soft, begin_with, plan_of, doing_next, doing_after, local_after, owners_room, without_node}
 use Rattle.rht_core.specs.Runs.{Core, World, local_of, beginning_in, with_machine, planned_in, with_step, enrolling, world_step, run_of, opening, IsAdmitted, IsAdmittedCall, IsAdmittedEvent}
 use Rattle.rht_core.specs.Laws.{IsDoingIn, IsLocalIn, WordsFit, IsOfCaller, IsEnrolledKept, Enrolled}
 use Rattle.rht_core.specs.Jobs.{Job, finds, binds, lists, releases, rebinds, works, tidies, walks, counts, job_plan, job_of}
@@ -112,6 +113,17 @@ planned_job env mix c (works state) few within = planned_work env c state few wi
 planned_job env mix c (tidies batch state) few within = planned_tidying env.geometry batch state within
 planned_job env mix c (walks from limit room state) few within = planned_walk env.geometry c state few within
 planned_job env mix c counts few within = planned_count env
+
+-- an operation in a hold is on a word of the table too
+pub soft-in : (g : Geometry) (over : Bool) (op : Op) → IsPlannedIn g op → IsPlannedIn g (soft over op)
+soft-in g over (Add place by) planned =
+    cond_both (turns_section place by && over) _ _ (IsPlannedIn g) (λ t. record { within = planned.within; apart = planned.apart; fits = omega arith }) (λ f. planned)
+soft-in g over (Load place) planned = planned
+soft-in g over (Store place value) planned = planned
+soft-in g over (Exchange place old new) planned = planned
+soft-in g over (Sub place by) planned = planned
+soft-in g over (And place mask) planned = planned
+soft-in g over (Or place mask) planned = planned
 
 module _ (M : Type 0) where
   -- a caller that begins an admitted call begins in range
@@ -278,9 +290,9 @@ module _ (M : Type 0) where
     pub plans-in : (local : Local M) (op : Op) → c < 16 → IsLocalIn env c local → plan_of local ≡ Some op
         → IsPlannedIn env.geometry op
     plans-in local op few within is =
-        let plans = plan-job env c local.doing op within.doing is in
+        let plans = plan-job env c local op within.doing is in
         subst (IsPlannedIn env.geometry) (sym plans.plan)
-        (planned_job env mix c plans.job few (job-in local.doing plans.job local.owners plans.does within.doing within.owners))
+        (soft-in env.geometry local.held (job_plan env c plans.job) (planned_job env mix c plans.job few (job-in local.doing plans.job local.owners plans.does within.doing within.owners)))
 
 -- ---- runs
 

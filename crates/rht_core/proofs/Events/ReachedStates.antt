@@ -1,7 +1,7 @@
 -- What holds of words and callers that a run has reached: they are sound, who isn't enrolled is idle, and after one more
 -- admitted event a run has reached them too.
 use Rattle.std.proofs.Common.{◌≡◌, ℕ, ◌<◌, ◌≤◌, Bool, true, List, [], ◌∷◌, ◌++◌, length, refl, sym, ap, ◌∙◌, subst, arith, lt-ltb}
-use Rattle.std.specs.Prelude.{Option, Some, None, nat_lt, cond, slice_index_or}
+use Rattle.std.specs.Prelude.{Option, Some, None, nat_lt, cond, slice_index_or, slice_set}
 use Rattle.std.proofs.lemmas.List.{get_or_read}
 use Rattle.rht_words.specs.declared.op.Op.{Op}
 use Rattle.rht_words.specs.declared.env.Env.{Env}
@@ -11,9 +11,10 @@ use Rattle.rht_core.specs.declared.event.Event.TheVariants.{Enroll, Begin, Step}
 use Rattle.rht_core.specs.declared.event.Stepped.{Stepped}
 use Rattle.rht_callers.specs.declared.local.Local.{Local}
 use Rattle.rht_callers.specs.Batches.{CanPut, out_of}
-use Rattle.rht_callers.specs.Locals.{fresh, is_idle, plan_of}
-use Rattle.rht_words.specs.Operations.{old_of}
-use Rattle.rht_core.specs.Runs.{Core, World, View, core_of, local_of, planned_in, with_step, core_step, run_of, IsSound, MayPut, IsAdmittedEvent, IsReached}
+use Rattle.rht_callers.specs.Locals.{fresh, is_idle, plan_of, local_after}
+use Rattle.rht_words.specs.Operations.{old_of, applied}
+use Rattle.rht_model.specs.declared.history.Reply.{Reply}
+use Rattle.rht_core.specs.Runs.{Core, World, View, core_of, has_done, planned, local_of, planned_in, with_step, core_step, run_of, IsSound, MayPut, IsAdmittedEvent, IsReached}
 use Rattle.rht_core.proofs.Events.BatchesInRuns.{may_put}
 use Rattle.rht_core.proofs.Events.Worlds.{run_of-push}
 use Rattle.rht_core.proofs.Events.SoundRuns.{runs-in, IsSound-stays}
@@ -43,6 +44,25 @@ module _ (M : Type 0) (mix : ℕ → ℕ → ℕ → ℕ) where
       ap (λ (b : Bool). cond b (plan_of (local_of core c)) None) enrolled_is ∙ ap plan_of (sym same) ∙ plan in
       subst (λ (l : Local M). CanPut l.batch (out_of mix l.doing old)) (sym same)
       (subst (λ word. CanPut (local_of core c).batch (out_of mix (local_of core c).doing word)) (sym found) (may c op plans))
+
+  -- so what it performs is its step
+  pub stepped_now : (env : Env) (words : List ℕ) (enrolled : ℕ) (locals : List (Local M)) (c old : ℕ) (local : Local M) (op : Op)
+      (after : List ℕ) (next : Local M) (reply : Option Reply)
+      → c < enrolled → c < length locals → local ≡ slice_index_or locals c local
+      → plan_of local ≡ Some op → old ≡ old_of words op → after ≡ applied words op → (next, reply) ≡ local_after mix local old
+      → (core_of env after enrolled (slice_set locals c next), has_done op old reply)
+      ≡ with_step mix (core_of env words enrolled locals) c (planned env enrolled locals c)
+  stepped_now env words enrolled locals c old local op after next reply low place read plan found left becomes =
+      let core : Core M = core_of env words enrolled locals in
+      let same : local ≡ local_of core c = get_or_read locals c local place read (fresh env) in
+      let plans : planned_in core c ≡ Some op =
+      ap (λ (b : Bool). cond b (plan_of (local_of core c)) None) (lt-ltb c enrolled low) ∙ ap plan_of (sym same) ∙ plan in
+      ap (λ ws. (core_of env ws enrolled (slice_set locals c next), has_done op old reply)) left
+      ∙ ap (λ (p : Local M × Option Reply). (core_of env (applied words op) enrolled (slice_set locals c p.0), has_done op old p.1)) becomes
+      ∙ ap (λ o. let p = local_after mix local o in (core_of env (applied words op) enrolled (slice_set locals c p.0), has_done op o p.1)) found
+      ∙ ap (λ (l : Local M). let p = local_after mix l (old_of words op) in
+      (core_of env (applied words op) enrolled (slice_set locals c p.0), has_done op (old_of words op) p.1)) same
+      ∙ sym (ap (with_step mix core c) plans)
 
   -- a caller that there may be has a place
   pub place-reached : (core : Core M) (c : ℕ) → IsReached mix core → c < core.env.geometry.callers

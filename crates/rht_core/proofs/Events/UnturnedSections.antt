@@ -15,10 +15,10 @@ use Rattle.rht_core.proofs.Events.RangesInRuns.{AllIn}
 use Rattle.rht_core.proofs.Events.SectionsInRuns.{AreRight, odd_by, in_section, event_right}
 use Rattle.rht_ghost.proofs.Theory.Frames.{still}
 use Rattle.rht_ghost.proofs.Theory.Ghosts.{Ghost, IsSince}
-use Rattle.rht_ghost.proofs.Theory.Knowledge.{ReadsFrom, outside-none}
+use Rattle.rht_ghost.proofs.Theory.Knowledge.{ReadsFrom, reads-turned}
 use Rattle.rht_ghost.proofs.Theory.Reliance.{TablesStay}
 use Rattle.rht_ghost.proofs.Theory.Steps.{mem, SectionTurns, section_turns}
-use Rattle.rht_ghost.proofs.Theory.Wholes.{Whole}
+use Rattle.rht_ghost.proofs.Theory.Wholes.{IsTurned, Whole}
 
 -- ---- the words before each event
 
@@ -122,21 +122,22 @@ module _ (env : Env) (mix : ℕ → ℕ → ℕ → ℕ) (L : Type 0) where
     reads : ReadsFrom inside (G.from c) G.current
     reads = knows-reads env mix c (job_of (local_of core c).doing) (mem env mix core.words) G (inv.each c)
 
+    -- an odd word is that of an open one
     pub open_odd : word_at env.geometry core.words (Section c) % 2 ≡ 1 → ReadsFrom true (G.from c) G.current
-    open_odd odd = go inside refl
+    open_odd odd = go (G.from c) (inv.whole.sections.words c low) reads
       where
-        go : (b : Bool) → inside ≡ b → ReadsFrom true (G.from c) G.current
-        go true is = subst (λ b. ReadsFrom b (G.from c) G.current) is reads
-        go false is = absurd (let both : 1 ≡ 0 = sym odd ∙ right c low ∙ ap odd_by is in omega (arith, both))
+        go : (from : Option ℕ) → IsTurned env mix from (word_at env.geometry core.words (Section c)) → ReadsFrom inside from G.current
+            → ReadsFrom true from G.current
+        go None even reads = absurd (omega (arith, even, odd))
+        go (Some first) turned reads = reads-turned inside true (Some first) G.current tt reads
 
     pub since_odd : (τ : ℕ) → IsSince (G.from c) τ → word_at env.geometry core.words (Section c) % 2 ≡ 1
-    since_odd τ since = go inside refl
+    since_odd τ since = go (G.from c) (inv.whole.sections.words c low) since
       where
-        go : (b : Bool) → inside ≡ b → word_at env.geometry core.words (Section c) % 2 ≡ 1
-        go true is = right c low ∙ ap odd_by is
-        go false is =
-            let none = outside-none (G.from c) G.current (subst (λ b. ReadsFrom b (G.from c) G.current) is reads) in
-            absurd (subst (λ from. IsSince from τ) none since)
+        go : (from : Option ℕ) → IsTurned env mix from (word_at env.geometry core.words (Section c)) → IsSince from τ
+            → word_at env.geometry core.words (Section c) % 2 ≡ 1
+        go None turned since = absurd since
+        go (Some first) turned since = turned
 
   -- ---- a section word that an event leaves
 
@@ -149,7 +150,7 @@ module _ (env : Env) (mix : ℕ → ℕ → ℕ → ℕ) (L : Type 0) where
     G' = (kept env mix L w.core G event all inv).ghost
 
     pub right_then : AreRight env mix L core'
-    right_then = event_right env mix L w.core event (record { ghost = G; inv = inv; all = all }) right
+    right_then = event_right env mix L w.core event (record { ghost = G; inv = inv; all = all })
 
     -- an open one begins with the table with which it began
     pub from_stays : (c : ℕ) → c < 16 → word_at env.geometry w.core.words (Section c) % 2 ≡ 1

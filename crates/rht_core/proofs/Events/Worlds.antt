@@ -18,7 +18,7 @@ use Rattle.rht_core.specs.declared.event.Event.TheVariants.{Begin, Step}
 use Rattle.rht_core.specs.declared.book.Book.{Book}
 use Rattle.rht_callers.specs.declared.local.Local.{Local}
 use Rattle.rht_callers.specs.declared.local.Doing.{Doing}
-use Rattle.rht_callers.specs.Locals.{fresh, is_idle, machine_from, begin_with, plan_of, local_after, ending_of}
+use Rattle.rht_callers.specs.Locals.{fresh, is_idle, may_hold, may_begin, machine_from, begin_with, plan_of, local_after, ending_of}
 use Rattle.rht_core.specs.Runs.{Core, World, View, view_of, local_in, local_of, beginning, beginning_in, with_machine, planned, planned_in, with_step, book_at, book_begun, book_after, books_begun, books_stepped, core_step, world_step, run_from, run_of, opening, IsAdmitted, IsAdmittedEvent}
 use Rattle.rht_core.specs.Laws.{view_begun, view_stepped, Extends}
 
@@ -72,6 +72,7 @@ module _ {M : Type 0} where
       : Type 0 where
     pub below : c < enrolled
     pub idle : is_idle (local_in env locals c) ≡ true
+    pub may : may_hold (local_in env locals c).held call ≡ true
     pub machine_is : machine_from env c (local_in env locals c).batch call start ≡ Some machine
 
   pub beginning-some : (env : Env) (enrolled : ℕ) (locals : List (Local M)) (c : ℕ) (call : Call) (start : ℕ)
@@ -79,9 +80,10 @@ module _ {M : Type 0} where
       → beginning env enrolled locals c call start ≡ Some machine → CanBegin env enrolled locals c call start machine
   beginning-some env enrolled locals c call start machine is =
       let parts =
-      cond_none (nat_lt c enrolled && is_idle (local_in env locals c)) (machine_from env c (local_in env locals c).batch call start) machine is in
-      let both = and_parts (nat_lt c enrolled) (is_idle (local_in env locals c)) parts.0 in
-      record { below = ltb-true c enrolled both.0; idle = both.1; machine_is = parts.1 }
+      cond_none (nat_lt c enrolled && may_begin (local_in env locals c) call) (machine_from env c (local_in env locals c).batch call start) machine is in
+      let both = and_parts (nat_lt c enrolled) (may_begin (local_in env locals c) call) parts.0 in
+      let begins = and_parts (is_idle (local_in env locals c)) (may_hold (local_in env locals c).held call) both.1 in
+      record { below = ltb-true c enrolled both.0; idle = begins.0; may = begins.1; machine_is = parts.1 }
 
   -- who plans an operation is enrolled
   pub record CanStep (env : Env) (enrolled : ℕ) (locals : List (Local M)) (c : ℕ) (op : Op) : Type 0 where

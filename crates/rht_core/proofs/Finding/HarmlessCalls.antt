@@ -1,8 +1,10 @@
 -- A look-up, a walk and a reading of the count only load, but for the caller's own section word. A tidying loads section words, and sets bits
 -- of the map of nodes. None of them is ever at the work lock.
-use Rattle.std.proofs.Common.{◌≡◌, ◌≢◌, ℕ, ◌+◌, ◌/◌, ◌<◌, ◌≤◌, List, get_or, [], ◌∷◌, ◌++◌, sym, subst, inl, inr, refl, arith}
+use Rattle.std.proofs.lemmas.Bool.{cond_both}
+use Rattle.rht_callers.specs.Locals.{turns_section, soft}
+use Rattle.std.proofs.Common.{Bool, ◌&&◌, ◌≡◌, ◌≢◌, ℕ, ◌+◌, ◌/◌, ◌<◌, ◌≤◌, List, get_or, [], ◌∷◌, ◌++◌, sym, subst, inl, inr, refl, arith}
 use Rattle.rht_words.specs.declared.op.Op.{Op}
-use Rattle.rht_words.specs.declared.op.Op.TheVariants.{Load, Add}
+use Rattle.rht_words.specs.declared.op.Op.TheVariants.{Load, Store, Exchange, Add, Sub, And, Or}
 use Rattle.rht_words.specs.declared.env.Env.{Env}
 use Rattle.rht_words.specs.declared.geometry.Geometry.{Geometry}
 use Rattle.rht_words.specs.Operations.{op_place}
@@ -32,7 +34,7 @@ use Rattle.rht_core.specs.Tidyings.{IsTidyingIn}
 use Rattle.rht_core.specs.Traces.{Did}
 use Rattle.rht_core.proofs.Events.JobsOfCallers.{each_goes, same_call}
 use Rattle.rht_core.proofs.Machines.TidyRanges.{waiting_low}
-use Rattle.rht_core.proofs.Tracing.TracedJobs.{Performs, LeadsOn, IsAtJob, jobs_keep}
+use Rattle.rht_core.proofs.Tracing.TracedJobs.{hard, Performs, LeadsOn, IsAtJob, jobs_keep}
 
 -- ---- of operations
 
@@ -132,6 +134,18 @@ tidy_harmless env batch (tidy_at.Asking caller) within = far_load env.geometry (
 tidy_harmless env batch (tidy_at.Giving index) within =
     node_given env.geometry (get_or batch.waiting index 0) (waiting_low env.geometry batch (tidy_at.Giving index) index within)
 
+-- one that loads a section word in its place is so too
+soft-harmless : (g : Geometry) (over : Bool) (op : Op) → IsHarmlessOp g op → IsHarmlessOp g (soft over op)
+soft-harmless g over (Load place) harmless = harmless
+soft-harmless g over (Store place value) harmless = harmless
+soft-harmless g over (Exchange place old new) harmless = harmless
+soft-harmless g over (Sub place by) harmless = harmless
+soft-harmless g over (And place mask) harmless = harmless
+soft-harmless g over (Or place mask) harmless = harmless
+soft-harmless g over (Add place by) harmless =
+    cond_both (turns_section place by && over) _ _ (IsHarmlessOp g)
+    (λ t. record { buckets = λ there. refl; work = λ same. harmless.work same }) (λ f. harmless)
+
 -- ---- of calls
 
 module _ (mix : ℕ → ℕ → ℕ → ℕ) (env : Env) where
@@ -141,15 +155,16 @@ module _ (mix : ℕ → ℕ → ℕ → ℕ) (env : Env) where
 
   job_harmless : (job : Job) (did : Did) → Performs mix env job did → IsLockFree (call_of job) → IsHarmless env.geometry did
   job_harmless (finds port state) did performs reads =
-      by_op did (plan_at env performs.caller state) performs.planned
-      (find_harmless env performs.caller state performs.few performs.within)
+      by_op did _ performs.planned
+      (soft-harmless env.geometry performs.over (plan_at env performs.caller state) (find_harmless env performs.caller state performs.few performs.within))
   job_harmless counts did performs reads =
       by_op did _ performs.planned (record { buckets = λ there. refl; work = λ same. absurd (omega (arith, same)) })
   job_harmless (tidies batch state) did performs reads =
-      by_op did (tidy.plan_at env.geometry batch state) performs.planned (tidy_harmless env batch state performs.within)
+      by_op did (tidy.plan_at env.geometry batch state) (hard mix env refl performs) (tidy_harmless env batch state performs.within)
   job_harmless (walks from limit room state) did performs reads =
-      by_op did (walk.plan_at env.geometry performs.caller state) performs.planned
-      (walk_harmless env.geometry performs.caller state performs.few performs.within)
+      by_op did _ performs.planned
+      (soft-harmless env.geometry performs.over (walk.plan_at env.geometry performs.caller state)
+      (walk_harmless env.geometry performs.caller state performs.few performs.within))
   job_harmless _ did performs (inl reads) = absurd (let same = reads.1 in cc)
   job_harmless _ did performs (inr (inl reads)) = absurd (cc)
   job_harmless _ did performs (inr (inr (inl reads))) = absurd (cc)

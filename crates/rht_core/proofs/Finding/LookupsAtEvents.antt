@@ -1,5 +1,6 @@
 -- What look-ups know behind an event, each of its own port: a look-up's own load leads on from what it knows; and what it knows then, as what
 -- it knows at an event of another caller or of none, outlives that event.
+use Rattle.rht_callers.specs.Locals.{soft}
 use Rattle.std.proofs.Common.{◌≡◌, ◌⊎◌, ℕ, ◌+◌, ◌<◌, ◌≤◌, Bool, true, false, List, [], ◌∷◌, ◌++◌, length, Option, Some, refl, sym, ◌∙◌, ap, subst, arith}
 use Rattle.std.specs.Prelude.{IfSome}
 use Rattle.std.specs.List.{AllByRecursion}
@@ -273,22 +274,22 @@ module _ (L : Type 0) (mix : ℕ → ℕ → ℕ → ℕ) (env : Env) where
           subst (λ s. ReadsFrom (held_of (finds port s)).section (placed.ghost.from c) placed.ghost.current) e
           (subst (λ job. Knows env mix c job (mem env mix core.words) placed.ghost) is (placed.inv.each c)).knowing.only.reads
 
-      pub goes_on : (did : Did) → did.op ≡ plan_at env c state → says state ≡ Go
+      pub goes_on : (over : Bool) (did : Did) → did.op ≡ soft over (plan_at env c state) → says state ≡ Go
           → job_of (local_of core' c).doing ≡ Some (finds port (goes mix env port state old))
           → Looks more core' placed' (then c) c port begin (steps ++ did ∷ []) (goes mix env port state old)
-      goes_on did planned still does =
+      goes_on over did planned still does =
           outlives c port begin (steps ++ did ∷ []) looks.low looks.begun (SaysOf more c port begin) (λ reply said. said)
           (goes mix env port state old) does known_next
           (subst (IsSpent env c placed.ghost (goes mix env port state old)) (sym (length_push steps did))
           (spent_leads env c mix port (seen c) (begin + 1) (SaysOf events c port begin) core.words placed.ghost placed.places
           placed.inv.whole c (length steps) state still within looks.means looks.spent reads_current))
-          (met_leads env c mix port core.words placed.ghost placed.inv.whole c state steps did within planned looks.met reads_current)
+          (met_leads env c mix port core.words placed.ghost placed.inv.whole c over state steps did within planned looks.met reads_current)
 
       -- with one operation more it has loaded no slot's shape twice still
-      pub once_more : (did : Did) → did.op ≡ plan_at env c state → AreOnce env c (steps ++ did ∷ [])
-      once_more did planned =
+      pub once_more : (over : Bool) (did : Did) → did.op ≡ soft over (plan_at env c state) → AreOnce env c (steps ++ did ∷ [])
+      once_more over did planned =
           met-once env c placed.ghost (goes mix env port state old) (steps ++ did ∷ [])
-          (met_leads env c mix port core.words placed.ghost placed.inv.whole c state steps did within planned looks.met reads_current)
+          (met_leads env c mix port core.words placed.ghost placed.inv.whole c over state steps did within planned looks.met reads_current)
 
     -- behind the last one it has ended
     ends_with : (c port begin : ℕ) (steps : List Did) (state : FindAt) (reply : Reply) → says state ≡ Done reply
@@ -358,18 +359,18 @@ module _ (L : Type 0) (mix : ℕ → ℕ → ℕ → ℕ) (env : Env) where
             now = tt;
           }
 
-      pub own : (job : Job) → job_of (local_of core c).doing ≡ Some job → JobIn env mix c job → AllByRecursion (PastLooks events c) trace.past
-          → JobLooks events core placed (seen c) c trace.begin trace.steps (Some job) → did.op ≡ job_plan env c job
+      pub own : (over : Bool) (job : Job) → job_of (local_of core c).doing ≡ Some job → JobIn env mix c job → AllByRecursion (PastLooks events c) trace.past
+          → JobLooks events core placed (seen c) c trace.begin trace.steps (Some job) → did.op ≡ soft over (job_plan env c job)
           → let after = job_after mix env job (old_of core.words (job_plan env c job)) in
           job_of (local_of core' c).doing ≡ (told after).0
           → LooksThen c (trace_then job after) (told after).0
-      own (finds port state) is within looked looks planned does =
+      own over (finds port state) is within looked looks planned does =
           let after = after_at mix env port state (old_of core.words (plan_at env c state)) in
           find-then port state after within looks
-          (λ goes. goes_on c port trace.begin trace.steps state looks within is did planned goes
+          (λ goes. goes_on c port trace.begin trace.steps state looks within is over did planned goes
           (does ∙ ap (λ next. (told (job_next (finds port) plain_ending (after.0, next))).0) goes))
-          (once_more c port trace.begin trace.steps state looks within is did planned) refl looked
-      own job is within looked looks planned does =
+          (once_more c port trace.begin trace.steps state looks within is over did planned) refl looked
+      own over job is within looked looks planned does =
           let old = old_of core.words (job_plan env c job) in
           other-then job (job_after mix env job old) refl (same_call mix env job old) looked
 

@@ -6,6 +6,7 @@ use Rattle.std.proofs.Common.{◌≡◌, ◌≢◌, ℕ, ◌+◌, ◌%◌, ◌<�
 use Rattle.std.proofs.lemmas.Bool.{cases_eq}
 use Rattle.rht_words.specs.declared.op.Op.{Op}
 use Rattle.rht_words.specs.declared.env.Env.{Env}
+use Rattle.rht_core.proofs.Machines.HeldSteps.{soft-old}
 use Rattle.rht_words.specs.declared.config.Kind.{Kind}
 use Rattle.rht_words.specs.declared.machine.Next.{Next}
 use Rattle.rht_words.specs.declared.machine.Next.TheVariants.{Go, Done}
@@ -140,6 +141,8 @@ module _ (L : Type 0) (mix : ℕ → ℕ → ℕ → ℕ) (env : Env) where
       let did : Did = record { index = r.count; op = op; old = old } in
       let does : job_of (local_of (world_step mix r.world (Step c)).core c).doing ≡ (told (job_after mix env of.job old)).0 =
       ap (λ (s : View L). job_of s.local.doing) (step_self L mix r.world c op is place) ∙ ap (λ l. l.0) left in
+      let found : old_of core.words op ≡ old_of core.words (job_plan env c of.job) =
+      ap (old_of core.words) of.plan ∙ soft-old local.held (job_plan env c of.job) core.words in
       elim (cases_eq d c) [
         | inl same ↦
             subst (λ k. LooksThen L mix env events (Step c) looking turn k (traces_after mix r (Step c) k)
@@ -153,13 +156,13 @@ module _ (L : Type 0) (mix : ℕ → ℕ → ℕ → ℕ) (env : Env) where
             ∙ ap (λ l. trace_did (Some (call_of of.job)) did l.1 (r.traces c)) left)
             does
             (subst (λ o. LooksThen L mix env events (Step c) looking turn c
-            (trace_did (Some (call_of of.job)) did (told (job_after mix env of.job (old_of core.words o))).1 (r.traces c))
-            (told (job_after mix env of.job (old_of core.words o))).0) (sym of.plan)
-            (own L mix env events (Step c) looking turn c (r.traces c) did (count-traced_of L mix env events) of.job of.is of.within
+            (trace_did (Some (call_of of.job)) did (told (job_after mix env of.job o)).1 (r.traces c))
+            (told (job_after mix env of.job o)).0) (sym found)
+            (own L mix env events (Step c) looking turn c (r.traces c) did (count-traced_of L mix env events) local.held of.job of.is of.within
             (looking.looks c).past
             (subst (JobLooks L mix env events core looking.placed (looking.readers c).chains c (r.traces c).begin (r.traces c).steps)
             of.is (looking.looks c).now) of.plan
-            (does ∙ ap (λ o. (told (job_after mix env of.job (old_of core.words o))).0) of.plan))))
+            (does ∙ ap (λ o. (told (job_after mix env of.job o)).0) found))))
         | inr other ↦
             as_before L mix env events (Step c) looking turn d
             (ap (λ (s : View L). job_of s.local.doing) (step_other L mix r.world c d other))
@@ -205,7 +208,8 @@ module _ (L : Type 0) (mix : ℕ → ℕ → ℕ → ℕ) (env : Env) where
         (λ port. SaysOf L mix env events c port trace.begin) placed.places of.job of.within of.knows
         (subst (tied_with env mix G) of.is (looking.meets c of.low).tied)
         (look_known c trace.begin trace.steps of.job looks) in
-        let same : old_of core.words op ≡ old_of core.words (job_plan env c of.job) = ap (old_of core.words) of.plan in
+        let same : old_of core.words op ≡ old_of core.words (job_plan env c of.job) =
+        ap (old_of core.words) of.plan ∙ soft-old (local_of core c).held (job_plan env c of.job) core.words in
         subst (ComesTo env.geometry core.words (standing core c))
         (sym (ap standing_with (next_job env mix L core G placed.all placed.inv c op plan)
         ∙ ap (λ old. standing_with (told (job_after mix env of.job old)).0) same))

@@ -4,6 +4,7 @@ use Rattle.std.proofs.Common.{◌≡◌, ◌⊎◌, ℕ, suc, ◌+◌, ◌/◌, 
 use Rattle.std.proofs.lemmas.List.{length_push}
 use Rattle.rht_words.specs.declared.op.Op.{Op}
 use Rattle.rht_words.specs.declared.env.Env.{Env}
+use Rattle.rht_ghost.proofs.Pieces.HeldSections.{of_its_own}
 use Rattle.rht_words.specs.Operations.{op_place, old_of, applied}
 use Rattle.rht_words.specs.Ports.{owner_of}
 use Rattle.rht_words.specs.Places.{Node, NodeWord, NodeMap, OwnerWord}
@@ -153,6 +154,9 @@ module _ (env : Env) (mix : ℕ → ℕ → ℕ → ℕ) (L : Type 0) where
         whole = made.whole;
         each = subst (λ K. (k : ℕ) → Knows env mix k (job_of (local_of core' k).doing) M' K) makes.same makes.inv.each;
         batches = subst (λ K. (k : ℕ) → BatchRight env mix L K k (local_of core' k)) makes.same makes.inv.batches;
+        right = makes.inv.right;
+        holds = makes.inv.holds;
+        rests = makes.inv.rests;
       };
       all = makes.all;
       places = next_places.places;
@@ -208,9 +212,9 @@ module _ (env : Env) (mix : ℕ → ℕ → ℕ → ℕ) (L : Type 0) where
         → (m : ℕ) (word : NodeWord) → m < env.geometry.nodes
         → mem env mix (applied w.core.words op) (Node m word) ≡ mem env mix w.core.words (Node m word)
     words_left c op of n is m word l =
-        let does : DoesReturnNode env.geometry n op (held_of of.job) (bare (held_next (job_after mix env of.job (old_of w.core.words op)))) =
-        subst (λ move. Does env mix move op (old_of w.core.words op) (held_of of.job)
-        (held_next (job_after mix env of.job (old_of w.core.words op)))) is of.step.does in
+        let does : DoesReturnNode env.geometry n op (of_its_own (local_of w.core c).held (held_of of.job)) (bare (of_its_own (local_of w.core c).held (held_next (job_after mix env of.job (old_of w.core.words op))))) =
+        subst (λ move. Does env mix move op (old_of w.core.words op) (of_its_own (local_of w.core c).held (held_of of.job))
+        (of_its_own (local_of w.core c).held (held_next (job_after mix env of.job (old_of w.core.words op))))) is of.step.does in
         let among = does.among in
         (is_write env.geometry w.core.words (NodeMap (n / 64)) op of.all (omega (arith, among)) (ap op_place does.giving)).others
         (Node m word) l (λ e. cc)

@@ -24,7 +24,7 @@ use Rattle.rht_core.specs.Lookups.{IsLoad, IsReading, HasRead, ReadsInside}
 use Rattle.rht_core.specs.Traces.{Did}
 use Rattle.std.specs.Prelude.{IfSome, ◌⊎◌}
 use Rattle.rht_core.proofs.Events.JobsOfCallers.{first_tidy-so, each_goes, same_call, first-of}
-use Rattle.rht_core.proofs.Tracing.TracedJobs.{Performs, LeadsOn, IsAtJob, jobs_keep_own}
+use Rattle.rht_core.proofs.Tracing.TracedJobs.{hard_rests, Performs, LeadsOn, IsAtJob, jobs_keep_own}
 
 -- its operation loads a word, where its section is open and it isn't about to close it
 reach_loads : (m : ReachModel) → reach_plan m ≡ Load (op_place (reach_plan m))
@@ -113,11 +113,11 @@ module _ (mix : ℕ → ℕ → ℕ → ℕ) (env : Env) (c : ℕ) where
   first-now Tidy batch start = first_tidy-so (λ job. Now job []) batch (λ own. tt)
   first-now _ batch start = tt
 
-  leads : (L : Type 0) (job : Job) (steps : List Did) (did : Did) (performs : Performs mix env job did) → performs.caller ≡ c
+  leads : (L : Type 0) (job : Job) (steps : List Did) (did : Did) (performs : Performs mix env job did) → performs.over ≡ false → performs.caller ≡ c
       → Now job steps → LeadsOn L mix env Now Ended job (steps ++ did ∷ []) (job_after mix env job did.old)
-  leads L (finds port state) steps did performs own now =
-      find_leads L port state steps did (performs.planned ∙ ap (λ caller. plan_at env caller state) own) now
-  leads L job steps did performs own now =
+  leads L (finds port state) steps did performs rests own now =
+      find_leads L port state steps did (hard_rests mix env performs rests ∙ ap (λ caller. plan_at env caller state) own) now
+  leads L job steps did performs rests own now =
       let all = steps ++ did ∷ [] in
       each_goes (λ after. Now after all) (λ ending. Ended (call_of job) ending all) (call_of job) (job_after mix env job did.old)
       (same_call mix env job did.old) (λ after same. other-now after all (ap is_look same))
@@ -140,7 +140,7 @@ reads_inside L mix env events c admitted =
     let kept = jobs_keep_own L mix env (Now mix env c) (Ended mix env c) events c
     (record {
       begins = λ call job is. first-of (λ j. Now mix env c j []) env call job (first-now mix env c call) is;
-      goes = λ job steps did performs own stands now. leads mix env c L job steps did performs own now;
+      goes = λ job steps did performs own stands now. leads mix env c L job steps did performs stands.rests own now;
     }) admitted in
     record {
       past = kept.past;

@@ -1,9 +1,12 @@
 -- A look-up loads the shape of each slot at most once: it loads that of each table to which it comes, in the order in which they were
 -- attached, and while its section is open none of these gives its slot to another one.
-use Rattle.std.proofs.Common.{◌≡◌, ◌≢◌, ◌⊎◌, ℕ, ◌+◌, ◌<◌, ◌≤◌, true, List, [], ◌∷◌, ◌++◌, Option, Some, None, refl, sym, ◌∙◌, subst, inl, inr, arith}
-use Rattle.std.specs.Prelude.{◌==◌, nat_lt}
+use Rattle.rht_words.specs.Operations.{op_place}
+use Rattle.rht_core.proofs.Machines.HeldSteps.{soft-reach}
+use Rattle.rht_callers.specs.Locals.{turns_section, soft}
+use Rattle.std.proofs.Common.{◌≡◌, ◌≢◌, ◌⊎◌, ℕ, ◌+◌, ◌<◌, ◌≤◌, true, List, [], ◌∷◌, ◌++◌, Option, Some, None, refl, sym, ap, ◌∙◌, subst, inl, inr, arith}
+use Rattle.std.specs.Prelude.{◌==◌, ◌&&◌, nat_lt, nat_le, Bool}
 use Rattle.std.specs.List.{AllByRecursion}
-use Rattle.std.proofs.lemmas.Bool.{cond_both, cases_eq}
+use Rattle.std.proofs.lemmas.Bool.{cond_both, cases_eq, and_parts, ltb-true}
 use Rattle.rht_words.specs.declared.op.Op.TheVariants.{Load}
 use Rattle.rht_words.specs.declared.env.Env.{Env}
 use Rattle.rht_words.specs.declared.geometry.Geometry.{Geometry}
@@ -291,9 +294,17 @@ module _ (env : Env) (c : ℕ) where
 
   -- ---- which operations load no shape
 
-  -- one that turns the section
-  turn_quiet : (did : Did) (caller : ℕ) → did.op ≡ turning caller → IsNoShapeLoad g did
-  turn_quiet did caller planned table within load = let same = sym planned ∙ load in cc
+  -- one that turns the section, or loads its word while the caller holds it open
+  turn_quiet : (did : Did) (over : Bool) (caller : ℕ) → did.op ≡ soft over (turning caller) → IsNoShapeLoad g did
+  turn_quiet did over caller planned table within load =
+      cond_both (turns_section (8 + caller) 1 && over) _ _ (λ op. did.op ≡ op → ⊥)
+      (λ t is.
+      let section = (and_parts (turns_section (8 + caller) 1) over t).0 in
+      let bounds = (and_parts (nat_le 8 (8 + caller) && nat_lt (8 + caller) 24) (1 == 1) section).0 in
+      let below = ltb-true (8 + caller) 24 (and_parts (nat_le 8 (8 + caller)) (nat_lt (8 + caller) 24) bounds).1 in
+      let at : 8 + caller ≡ place_of g (Slot table ShapeWord) = ap op_place (sym is ∙ load) in
+      absurd (omega (arith, at, below)))
+      (λ f is. let same = sym is ∙ load in cc) planned
 
   -- a load of another place
   load_quiet : (did : Did) (place : ℕ) → did.op ≡ Load place → ((table : ℕ) → table < 8 → place ≢ place_of g (Slot table ShapeWord))
@@ -373,12 +384,12 @@ module _ (env : Env) (c : ℕ) where
     }
 
     -- what the operation has loaded behind which it is in the next state
-    pub met_leads : (caller : ℕ) (state : FindAt) (steps : List Did) (did : Did) → IsFindAtIn env state
-        → did.op ≡ plan_at env caller state → HasMet G state steps
+    pub met_leads : (caller : ℕ) (over : Bool) (state : FindAt) (steps : List Did) (did : Did) → IsFindAtIn env state
+        → did.op ≡ soft over (plan_at env caller state) → HasMet G state steps
         → (state ≡ at.CurrentTable → ReadsFrom true (G.from c) G.current)
         → HasMet G (goes mix env port state (old_of words (plan_at env caller state))) (steps ++ did ∷ [])
-    met_leads caller at.Opening steps did within planned met reads = quiet-none did (turn_quiet did caller planned) steps met
-    met_leads caller at.CurrentTable steps did within planned met reads =
+    met_leads caller over at.Opening steps did within planned met reads = quiet-none did (turn_quiet did over caller planned) steps met
+    met_leads caller over at.CurrentTable steps did within planned met reads =
         let none = quiet-none did (current_quiet did planned) steps met in
         record {
           at = current-at env mix whole.tables (table_of (M CurrentTable)) (sym (current_slot env mix words G whole));
@@ -389,31 +400,31 @@ module _ (env : Env) (c : ℕ) where
           between = λ own low. inl (none own low);
           once = none_yet (steps ++ did ∷ []) none;
         }
-    met_leads caller (at.Locating reach) steps did within planned met reads =
+    met_leads caller over (at.Locating reach) steps did within planned met reads =
         let word = old_of words (plan_at env caller (at.Locating reach)) in
         let r = reach_after mix port reach word in
         met_in G reach.table (steps ++ did ∷ []) (reached env r.0 r.1)
         (reached-past mix port r.0 r.1 reach.table (reach_after-table mix port reach word) (reach-past mix port reach word))
-        (reach_meets G reach steps did within planned met)
-    met_leads caller (at.Heading head) steps did within planned met reads =
+        (reach_meets G reach steps did within (planned ∙ soft-reach over reach) met)
+    met_leads caller over (at.Heading head) steps did within planned met reads =
         let link = head_of head.place (old_of words (plan_at env caller (at.Heading head))) in
         met_in G head.table (steps ++ did ∷ []) _ (led_to-past mix port head 0 link (node_of g.nodes link))
         (quiet-meets did (bucket_quiet did head.place within.place_in planned) G head.table 1 steps met)
-    met_leads caller (at.Key head node visited) steps did within planned met reads =
+    met_leads caller over (at.Key head node visited) steps did within planned met reads =
         met_in G head.table (steps ++ did ∷ []) _
         (compared-past mix port head node visited (old_of words (plan_at env caller (at.Key head node visited))))
         (quiet-meets did (node_quiet did node KeyWord planned) G head.table 1 steps met)
-    met_leads caller (at.Link head node visited) steps did within planned met reads =
+    met_leads caller over (at.Link head node visited) steps did within planned met reads =
         let link = old_of words (plan_at env caller (at.Link head node visited)) in
         met_in G head.table (steps ++ did ∷ []) _ (led_to-past mix port head visited link (node_of g.nodes link))
         (quiet-meets did (node_quiet did node ChainLink planned) G head.table 1 steps met)
-    met_leads caller (at.Future table) steps did within planned met reads =
+    met_leads caller over (at.Future table) steps did within planned met reads =
         let then = quiet-meets did (future_quiet did table planned) G table 1 steps met in
         onward table (steps ++ did ∷ []) (slot_of (M (Slot table FutureWord))) then (future_leads env mix M G whole table then.at)
-    met_leads caller (at.Owner node) steps did within planned met reads =
+    met_leads caller over (at.Owner node) steps did within planned met reads =
         quiet-once did (node_quiet did node OwnerWord planned) steps met
-    met_leads caller (at.Closing reply) steps did within planned met reads =
-        quiet-once did (turn_quiet did caller planned) steps met
+    met_leads caller over (at.Closing reply) steps did within planned met reads =
+        quiet-once did (turn_quiet did over caller planned) steps met
 
     -- and it stays so behind an operation of anybody else
     module _ (G' : Ghost) (stay : TablesStay env mix G G') (turned : SectionTurns env mix c G G') where

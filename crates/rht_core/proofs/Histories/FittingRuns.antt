@@ -1,5 +1,7 @@
 -- In every run there is a history that fits it, by induction over the events. What an operation of a caller says of bindings and of
 -- its call's answer is what the history needs: an operation that changes bindings has its entry put behind all others.
+use Rattle.rht_core.proofs.Machines.HeldSteps.{soft-old}
+use Rattle.rht_core.specs.Jobs.{job_plan}
 use Rattle.std.proofs.Common.{◌≡◌, ◌≢◌, ℕ, ◌+◌, ◌<◌, List, [], ◌∷◌, ◌++◌, length, Option, Some, None, Bool, true, false, cond, refl, sym, ap, ◌∙◌, subst, inl, inr, arith}
 use Rattle.std.specs.List.{AllByRecursion, Any}
 use Rattle.std.proofs.lemmas.Bool.{cases_eq}
@@ -317,8 +319,9 @@ module _ (M : Type 0) (mix : ℕ → ℕ → ℕ → ℕ) (env : Env) where
             → IsSaid M mix env after_it c (call_of job) trace.begin claims.answer
         claimed =
             subst (λ o. (claims : ClaimsAnswer kind c (call_of job) (held_of job).answer
-            (held_next (job_after mix env job (old_of words o))).answer)
-            → IsSaid M mix env after_it c (call_of job) trace.begin claims.answer) (sym of.plan)
+            (held_next (job_after mix env job o)).answer)
+            → IsSaid M mix env after_it c (call_of job) trace.begin claims.answer)
+            (sym (ap (old_of words) of.plan ∙ soft-old (local_of r.world.core c).held (job_plan env c job) words))
             (claim_is M mix env events c of.low admitted job of.is of.within)
 
         step : IsNext M mix env events event c (call_of job) trace.begin at.begun trace.steps at.made did

@@ -13,6 +13,7 @@ use Rattle.std.proofs.lemmas.Option.{slice_get-get_or}
 use Rattle.std.proofs.lemmas.List.{length_push}
 use Rattle.std.proofs.Math.Seq.{take-append_seam}
 use Rattle.rht_words.specs.declared.env.Env.{Env}
+use Rattle.rht_ghost.proofs.Pieces.HeldSections.{is_in}
 use Rattle.rht_words.specs.declared.geometry.Geometry.{Geometry}
 use Rattle.rht_words.specs.declared.machine.Next.{Next}
 use Rattle.rht_words.specs.declared.machine.Next.TheVariants.{Go, Done}
@@ -40,7 +41,7 @@ use Rattle.rht_core.specs.Traces.{Did, Past, traced_of, behind_call}
 use Rattle.rht_core.specs.Worked.{IsRetired, HaveOthersLeft, IsToReturn, GivesRetiredBack}
 use Rattle.rht_core.specs.WorkCauses.{TakesWorkLock, SawElsewhere}
 use Rattle.rht_core.specs.Returned.{ReturnsSlot}
-use Rattle.rht_core.proofs.Tracing.TracedJobs.{Performs, StandsIn, LeadsOn, IsBeside, IsEndedSo, jobs_keep_beside}
+use Rattle.rht_core.proofs.Tracing.TracedJobs.{hard, not_over, Performs, StandsIn, LeadsOn, IsBeside, IsEndedSo, jobs_keep_beside}
 use Rattle.rht_core.proofs.Reasons.ReturnedSlots.{IsFreed, IsWaiting, WaitsNext, waiting-left, returns-waits}
 use Rattle.rht_core.proofs.Reasons.RetiredStay.{others_leave, SlotStays}
 use Rattle.rht_core.proofs.Reasons.WorkPhases.{Phase, Locks, Returns, Goes_on, phase_of, IsBehind, stays-behind, returning-works}
@@ -56,7 +57,7 @@ use Rattle.rht_core.proofs.Events.InvariantRuns.{has_inv}
 use Rattle.rht_core.proofs.Events.Worlds.{run_of-push}
 use Rattle.rht_ghost.proofs.Theory.Steps.{mem, by_test}
 use Rattle.rht_ghost.proofs.Theory.Wholes.{IsTurned}
-use Rattle.rht_ghost.proofs.Theory.Knowledge.{outside-none}
+use Rattle.rht_ghost.proofs.Theory.Knowledge.{IsOpenAs, outside-none}
 
 -- ---- event by event
 
@@ -265,7 +266,8 @@ module _ (M : Type 0) (mix : ℕ → ℕ → ℕ → ℕ) (env : Env) (events : 
       subst (λ words. word_at g words (Section own) % 2 ≡ 0) here
       (subst (λ k. word_at g does.words (Section k) % 2 ≡ 0) mine
       (subst (λ from. IsTurned env mix from (word_at g does.words (Section does.caller)))
-      (outside-none (does.ghost.from does.caller) does.ghost.current does.knows.knowing.only.reads)
+      (outside-none (does.ghost.from does.caller)
+      (subst (λ over. IsOpenAs (is_in over false) (does.ghost.from does.caller)) (not_over mix env refl does) does.is_open))
       (does.whole.sections.words does.caller does.few))) in
       returned-on steps did h (return_tables_after_at h returns.at did.old) kept.older
       (since-push did.index (did.index + 1) steps did (omega arith)
@@ -276,7 +278,7 @@ module _ (M : Type 0) (mix : ℕ → ℕ → ℕ → ℕ) (env : Env) (events : 
       (subst (λ (k : Geometry). WaitsNext g slot slot_in (applied does.words did.op) all (return_tables_after_at k returns.at did.old))
       (sym geometry)
       (returns-waits g slot slot_in does.words steps did does.found returns.at does.within.at_in
-      (does.planned ∙ ap (λ (k : Geometry). return_tables_plan_at k returns.at) geometry)
+      (hard mix env refl does ∙ ap (λ (k : Geometry). return_tables_plan_at k returns.at) geometry)
       (subst (λ words. (caller : ℕ) → caller < g.callers → word_at g words (Slot slot (LoadedSection caller)) % 2 ≡ 1
       → word_at g words (Section caller) ≢ word_at g words (Slot slot (LoadedSection caller))) (sym here) left)
       (subst (λ words. IsWaiting g slot slot_in returns.at words steps) (sym here) waits))))
@@ -305,7 +307,7 @@ module _ (M : Type 0) (mix : ℕ → ℕ → ℕ → ℕ) (env : Env) (events : 
       → does.words ≡ words_at did.index → applied does.words did.op ≡ words_at (did.index + 1) → AtWork state did.index steps
       → After (steps ++ did ∷ []) (did.index + 1) (work.after_at mix env state did.old)
   work-on work_at.WorkLock steps did does mine here next kept =
-      lock-taken steps did does.planned (sym next ∙ ap (λ words. applied words did.op) here) kept.older kept.now
+      lock-taken steps did (hard mix env refl does) (sym next ∙ ap (λ words. applied words did.op) here) kept.older kept.now
   work-on (work_at.Returning returns) steps did does mine here next kept = returns-on returns steps did does mine here next kept
   work-on state steps did does mine here next kept = freed-on state steps did refl kept
 

@@ -56,6 +56,8 @@ use Rattle.rht_ghost.proofs.Theory.Reliance.{Rely}
 use Rattle.rht_ghost.proofs.Theory.KnowledgeKept.{Knowing-rely}
 use Rattle.rht_ghost.proofs.Theory.Steps.{mem, Holding, Step, StepWhere, step-map, reads}
 use Rattle.rht_ghost.proofs.Pieces.Locates.{IsThereFor}
+use Rattle.rht_ghost.proofs.Pieces.OwnSections.{OpensNone}
+use Rattle.rht_ghost.proofs.Pieces.HeldSections.{of_its_own}
 use Rattle.rht_ghost.proofs.Theory.Knowns.{known_nothing}
 use Rattle.rht_find.proofs.FindSteps.{FindMoved, find_step}
 use Rattle.rht_bind.proofs.BindKnowledge.{known_of_bind, fits_bind, bind_holds, BindNext}
@@ -187,6 +189,12 @@ module _ (env : Env) (mix : ℕ → ℕ → ℕ → ℕ) (c : ℕ) where
       StepWhere env mix (IsThere job (mem env mix words)) (IsThereNext r (mem env mix (applied words op)))
       c (call_of job) words G op (held_of job) (held_next r) (JobNext r)
 
+  -- the same while its caller may hold its section open over its calls: then of its own it has none open
+  abbrev pub JobStepOver : Bool → List ℕ → Ghost → Op → Job → Job × Next Ending → Type 0
+  JobStepOver over words G op job r =
+      StepWhere env mix (IsThere job (mem env mix words)) (IsThereNext r (mem env mix (applied words op)))
+      c (call_of job) words G op (of_its_own over (held_of job)) (of_its_own over (held_next r)) (JobNext r)
+
   fits-rely : (job : Job) (M M' : Memory) (G G' : Ghost) → Rely env mix c M G M' G' → (facts_of job).fits G → (facts_of job).fits G'
   fits-rely (tidies batch state) M M' G G' rely fits = OwnsNodes-rely env mix c (nodes_left batch state) M M' G G' rely fits
   fits-rely _ M M' G G' rely fits = fits
@@ -277,39 +285,40 @@ module _ (env : Env) (mix : ℕ → ℕ → ℕ → ℕ) (c : ℕ) where
         step-map env mix (λ M G' w k. record { knowing = k; leaves = tt }) step
 
     -- each operation of a job leads from what the caller knows to what it knows next
-    pub job_step : (job : Job) → JobIn job → JobKnows job (mem env mix words) G → JobStep job
-    job_step (finds port state) within knows =
+    pub job_step : (job : Job) → JobIn job → OpensNone env c G (job_plan env c job) (held_of job)
+        → JobKnows job (mem env mix words) G → JobStep job
+    job_step (finds port state) within outside knows =
         finds_so port state (find_at.after_at mix env port state (old_of words (find_at.plan_at env c state)))
-        (find_step env mix c port words G all whole low state knows.knowing)
-    job_step (binds port owner once state) within knows =
+        (find_step env mix c port words G all whole low state outside knows.knowing)
+    job_step (binds port owner once state) within outside knows =
         binds_so port owner once state (bind_at.after_at mix env port once state (old_of words (bind_at.plan_at env c state)))
-        (bind_step env mix c port owner once within.port_in within.owner_in low words G all whole state within.at_in (record { knowing = knows.knowing; fits = knows.fits }))
-    job_step (lists port room state) within knows =
+        (bind_step env mix c port owner once within.port_in within.owner_in low words G all whole state within.at_in outside (record { knowing = knows.knowing; fits = knows.fits }))
+    job_step (lists port room state) within outside knows =
         let old = old_of words (all_at.plan_at env c state) in
         lists_so port room within.roomy state (all_at.room_after state room old)
         (all_at.after_at mix env port state old)
-        (all_step env mix c port room within.roomy words G all whole low state within.at_in
+        (all_step env mix c port room within.roomy words G all whole low state within.at_in outside
         (record { knowing = knows.knowing; fits = knows.fits }))
-    job_step (releases port owner state) within knows =
+    job_step (releases port owner state) within outside knows =
         releases_so port owner state (release_at.after_at mix env port owner state (old_of words (release_at.plan_at env c state)))
-        (release_step env mix c port owner low words G all whole state within (record { knowing = knows.knowing; fits = knows.fits }))
-    job_step (rebinds port owner new state) within knows =
+        (release_step env mix c port owner low words G all whole state within outside (record { knowing = knows.knowing; fits = knows.fits }))
+    job_step (rebinds port owner new state) within outside knows =
         rebinds_so port owner new state
         (rebind_at.after_at mix env port owner state (old_of words (rebind_at.plan_at env c state)))
-        (rebind_step env mix c port owner new within.new_in low words G all whole state within.at_in
+        (rebind_step env mix c port owner new within.new_in low words G all whole state within.at_in outside
         (record { knowing = knows.knowing; fits = knows.fits }))
-    job_step (works state) within knows =
+    job_step (works state) within outside knows =
         works_so state (work_at.after_at mix env state (old_of words (work_at.plan_at env c state)))
-        (work_step env mix c low words G all whole state within knows.knowing)
-    job_step (tidies batch state) within knows =
+        (work_step env mix c low words G all whole state within outside knows.knowing)
+    job_step (tidies batch state) within outside knows =
         tidies_so batch state (tidy_at.after_at env.geometry batch state (old_of words (tidy_at.plan_at env.geometry batch state)))
         (tidy_step env mix c words G all whole batch state within knows.knowing knows.fits)
-    job_step (walks from limit room state) within knows =
+    job_step (walks from limit room state) within outside knows =
         let old = old_of words (walk_at.plan_at env.geometry c state) in
         let after = walk_at.room_after state room old in
         walks_so from limit room state after (walk_gone env from limit room after state old)
-        (walk_step env mix c from limit words G all whole low room state knows.knowing)
-    job_step counts within knows =
+        (walk_step env mix c from limit words G all whole low room state outside knows.knowing)
+    job_step counts within outside knows =
         let old = old_of words (count_plan_in env) in
         reads env mix whole refl refl (inr (record {
           learns = record { unknown = refl; answer = plain (Counted old); known = refl; said = inr refl };

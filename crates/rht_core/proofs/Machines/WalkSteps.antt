@@ -39,7 +39,7 @@ use Rattle.rht_ghost.proofs.Theory.Knowledge.{Knowing}
 use Rattle.rht_ghost.proofs.Theory.Knowns.{known_nothing}
 use Rattle.rht_ghost.proofs.Theory.Answering.{IsRight}
 use Rattle.rht_ghost.proofs.Theory.Steps.{Holding, mem, Step, answered, reads, still_has}
-use Rattle.rht_ghost.proofs.Pieces.OwnSections.{open_step, close_step}
+use Rattle.rht_ghost.proofs.Pieces.OwnSections.{OpensNone, open_step, close_step}
 
 -- ---- states behind the opening
 
@@ -159,22 +159,23 @@ module _ (env : Env) (mix : ℕ → ℕ → ℕ → ℕ) (c : ℕ) (from : Optio
     loads_on op leaves after _ opened knows = reads env mix whole leaves refl (inl refl) knows
 
     -- each operation of a walk leads from what it holds to what it holds next
-    pub walk_step : (room : Pairs) (state : WalkAt) → WalkKnows room state M G
+    pub walk_step : (room : Pairs) (state : WalkAt) → OpensNone env c G (plan_at env.geometry c state) (held_of_walk room state)
+        → WalkKnows room state M G
         → let old = old_of words (plan_at env.geometry c state) in
         let after = room_after state room old in
         WalkMoved room state after (walk_gone env from limit room after state old)
-    walk_step room at.Opening knows =
+    walk_step room at.Opening outside knows =
         answered env mix None (inl refl) (still_has refl)
-        (open_step env mix c held.holds_nothing known_nothing refl words G all whole low knows)
-    walk_step room (at.Closing (ends.Walked next)) knows =
+        (open_step env mix c held.holds_nothing known_nothing refl words G all whole low (outside refl refl) knows)
+    walk_step room (at.Closing (ends.Walked next)) outside knows =
         let answer = plain (reply_of room (ends.Walked next)) in
         answered env mix (Some answer) (inl (record { reply = refl; owners = refl })) (still_has refl)
         (close_step env mix c (held.ended_with answer) known_nothing refl words G all whole low refl refl knows)
-    walk_step room (at.Closing (ends.Again table)) knows =
+    walk_step room (at.Closing (ends.Again table)) outside knows =
         let answer = plain (reply_of room (ends.Again table)) in
         answered env mix (Some answer) (inl (record { reply = refl; owners = refl })) (still_has refl)
         (close_step env mix c (held.ended_with answer) known_nothing refl words G all whole low refl refl knows)
-    walk_step room state knows =
+    walk_step room state outside knows =
         let old = old_of words (plan_at env.geometry c state) in
         loads_on (plan_at env.geometry c state) refl (room_after state room old)
         (goes env.geometry from limit (length room.items) state old) (goes-opened env.geometry from limit (length room.items) state old) knows

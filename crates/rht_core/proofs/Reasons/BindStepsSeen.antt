@@ -52,7 +52,7 @@ use Rattle.rht_core.proofs.Reasons.UnboundSeen.{no_owner, unbound-walked}
 use Rattle.rht_core.proofs.Reasons.NamedFutures.{no_slot, future_few}
 use Rattle.rht_words.specs.Machines.{GoesOrEnds}
 use Rattle.rht_core.proofs.Reasons.PagesMissed.{SawGrowing, SawGrown, grow-saw, SeesMissing, SeesMissing-push}
-use Rattle.rht_core.proofs.Tracing.TracedJobs.{Performs, StandsIn}
+use Rattle.rht_core.proofs.Tracing.TracedJobs.{hard, Performs, StandsIn}
 use Rattle.rht_core.proofs.Reasons.TablesWalked.{IsAside, grow_loads, IsNoRaise, no_load, aside, elsewhere, node_loads, probe_loads, relink_stores, came-current, came-future, walked-came, LastWalked-push, Walked, Walked-push, WalkedSeeing, WalkedSeeing-push, make_loads, grow_stays, other_load, nodes_behind, walked-quiet, no_turn, WalkedSeeing-push_in, make_turns}
 use Rattle.rht_core.proofs.Reasons.KeyLoads.{no_key, no_key-before, no_key-grow}
 use Rattle.rht_core.proofs.Reasons.RoomSeen.{ShortSeen, RoomSeen, RoomSeen-push, room-seen}
@@ -122,11 +122,11 @@ module _ (env : Env) (words_at : ℕ → List ℕ) (mix : ℕ → ℕ → ℕ �
   future-unbound owner once claimed length did does now none =
       let means = does.knows.knowing.means in
       let word : did.old ≡ mem env mix does.words (Slot claimed.table FutureWord) =
-      does.found ∙ ap (old_of does.words) does.planned in
+      does.found ∙ ap (old_of does.words) (hard mix env refl does) in
       let few = future_few env mix does.words does.ghost claimed.table does.whole means.table.passing.at in
       record {
         none = record {
-          word = record { there = (does.within.at_in.table_in, tt); loads = does.planned };
+          word = record { there = (does.within.at_in.table_in, tt); loads = (hard mix env refl does) };
           found = no_slot did.old (omega (arith, word, few)) none;
         };
         unbound = subst (λ ws. stands_for env.geometry ws port ≡ []) now
@@ -273,10 +273,10 @@ module _ (env : Env) (words_at : ℕ → List ℕ) (mix : ℕ → ℕ → ℕ �
         → SeesNext (steps ++ did ∷ []) (after_at mix env port once state did.old)
     bind-saw (at.Filling new) steps did does own now saw so unraised =
         bind_made-saw new (new_node_after_at new.at did.old) (steps ++ did ∷ [])
-        (new-saw env new new.at steps did refl does.within.at_in does.planned saw)
+        (new-saw env new new.at steps did refl does.within.at_in (hard mix env refl does) saw)
     bind-saw (at.Opening attempt) steps did does own now saw so unraised = tt
     bind-saw (at.CurrentTable attempt) steps did does own now saw so unraised =
-        came-current env.geometry steps did does.planned
+        came-current env.geometry steps did (hard mix env refl does)
     bind-saw (at.Locating attempt locate) steps did does own now saw so unraised =
         locating-saw env words_at mix port c owner once attempt locate steps did does own now saw
     bind-saw (at.Entering attempt table shape place grow) steps did does own now saw so unraised =
@@ -285,18 +285,18 @@ module _ (env : Env) (words_at : ℕ → List ℕ) (mix : ℕ → ℕ → ℕ �
         let Before = SawGrowing env.geometry grow.at in
         let After = SawGrown env.geometry after in
         let apart : IsAside env.geometry did = record {
-          no_shape = grow_loads env.geometry grow.entry grow.at did does.planned;
-          stays = grow_stays env.geometry grow.entry grow.at did does.planned;
-          no_raise = λ adds. grow-none env.geometry grow.entry grow.at (sym does.planned ∙ adds);
+          no_shape = grow_loads env.geometry grow.entry grow.at did (hard mix env refl does);
+          stays = grow_stays env.geometry grow.entry grow.at did (hard mix env refl does);
+          no_raise = λ adds. grow-none env.geometry grow.entry grow.at (sym (hard mix env refl does) ∙ adds);
         } in
         let seeing : WalkedSeeing env.geometry table shape
         (SeesMissing env words_at mix port table shape After) (steps ++ did ∷ []) =
         WalkedSeeing-push env.geometry table shape (SeesMissing env words_at mix port table shape Before)
         (SeesMissing env words_at mix port table shape After) steps did apart
         (λ behind so_far. SeesMissing-push env words_at mix port table shape Before After behind did
-        (no_key-grow env.geometry grow.entry grow.at did within.at_in does.planned)
+        (no_key-grow env.geometry grow.entry grow.at did within.at_in (hard mix env refl does))
         (λ before here. grow-saw env.geometry grow.entry grow.at before (performed_of did) within.at_in
-        does.planned here)
+        (hard mix env refl does) here)
         so_far) saw in
         subst (λ (h : Geometry). let r = grow_after_at h grow.at did.old in
         Sees (grown env port attempt table shape place (record grow { at = r.0 }) r.1) (steps ++ did ∷ []))
@@ -308,33 +308,33 @@ module _ (env : Env) (words_at : ℕ → List ℕ) (mix : ℕ → ℕ → ℕ �
         probed-saw env.config.kind attempt table shape probe after (steps ++ did ∷ [])
         (WalkedSeeing-push_in env.geometry table shape (WalkCounted env.geometry words_at mix port table shape c probe.at)
         (CountedNext env.geometry words_at mix port table shape c after) steps did
-        (probe_loads env.geometry did probe.at within does.planned)
+        (probe_loads env.geometry did probe.at within (hard mix env refl does))
         (λ behind lie counted. subst (λ k. WalkCounted env.geometry words_at mix port table shape k probe.at behind
         → CountedNext env.geometry words_at mix port table shape k after (behind ++ did ∷ [])) own
         (probe-counted env mix words_at does.caller port does.words does.ghost does.whole
         table shape probe.geometry probe.key probe.at behind did within does.knows.fits.1
         does.knows.knowing.means.table does.knows.knowing.means.bucket
-        does.planned does.within.at_in.probe_in.geometry_same does.found now.now now.stay
+        (hard mix env refl does) does.within.at_in.probe_in.geometry_same does.found now.now now.stay
         (unturned-behind env.geometry words_at does.caller does.few steps behind did.index lie now.unturned)) counted) saw)
     bind-saw (at.FoundOwner claimed found) steps did does own now saw so unraised = does.knows.fits
     bind-saw (at.ListLink list) steps did does own now saw so unraised =
         Walked-push env.geometry list.claimed.table list.claimed.shape steps did
-        (aside env.geometry did _ does.planned (λ place load. cc) (λ place value adds. cc)) saw
+        (aside env.geometry did _ (hard mix env refl does) (λ place load. cc) (λ place value adds. cc)) saw
     bind-saw (at.ChainLink list) steps did does own now saw so unraised =
         Walked-push env.geometry list.claimed.table list.claimed.shape steps did
-        (node_loads env.geometry did env.geometry list.first ChainLink does.planned) saw
+        (node_loads env.geometry did env.geometry list.first ChainLink (hard mix env refl does)) saw
     bind-saw (at.LinkBehind list link) steps did does own now saw so unraised =
         Walked-push env.geometry list.claimed.table list.claimed.shape steps did
-        (aside env.geometry did _ does.planned (λ place load. cc) (λ place value adds. cc)) saw
+        (aside env.geometry did _ (hard mix env refl does) (λ place load. cc) (λ place value adds. cc)) saw
     bind-saw (at.Replacing list relink) steps did does own now saw so unraised =
         replaced-saw list (relink_after relink).0 (relink_after relink).1 (steps ++ did ∷ [])
         does.knows.fits.listed
         (Walked-push env.geometry list.claimed.table list.claimed.shape steps did
-        (relink_stores env.geometry did relink relink.at does.planned) saw)
+        (relink_stores env.geometry did relink relink.at (hard mix env refl does)) saw)
         (AttachedSo-push env.geometry list.claimed.attempt.attached steps did
-        (no_attach env.geometry did _ does.planned (relink-none env.geometry relink relink.at)) so)
+        (no_attach env.geometry did _ (hard mix env refl does) (relink-none env.geometry relink relink.at)) so)
         (AllByRecursion-push (IsNoRaise env.geometry) steps did unraised
-        (relink_stores env.geometry did relink relink.at does.planned).no_raise)
+        (relink_stores env.geometry did relink relink.at (hard mix env refl does)).no_raise)
     bind-saw (at.Future claimed length) steps did does own now saw so unraised =
         let place = claimed.bucket.place in
         let counted = HasWalked env.geometry words_at mix port claimed.table claimed.shape c place length in
@@ -344,80 +344,80 @@ module _ (env : Env) (words_at : ℕ → List ℕ) (mix : ℕ → ℕ → ℕ �
         (λ behind few has. short-counted env mix words_at does.caller port does.words does.ghost does.whole
         claimed.table claimed.shape c place length behind does.knows.knowing.means.table few has)
         (λ table named. came-future env.geometry claimed.table table steps did does.within.at_in.table_in
-        does.planned named
+        (hard mix env refl does) named
         (walked-came env.geometry claimed.table claimed.shape steps saw.walked))
         (WalkedSeeing-push env.geometry claimed.table claimed.shape counted (SawFuture claimed length (slot_of did.old)) steps did
-        (elsewhere env.geometry did _ does.planned (λ first. absurd (omega (arith, first))) (λ table below same. absurd (omega arith)))
+        (elsewhere env.geometry did _ (hard mix env refl does) (λ first. absurd (omega (arith, first))) (λ table below same. absurd (omega arith)))
         (λ behind has. (
           HasWalked-push env.geometry words_at mix port claimed.table claimed.shape c place length behind did
-              (no_key-future env.geometry did claimed.table does.within.at_in.table_in does.planned) has,
+              (no_key-future env.geometry did claimed.table does.within.at_in.table_in (hard mix env refl does)) has,
           λ none. Any-push (SawNoneBehind env.geometry words_at port claimed.table) behind did
               (future-unbound owner once claimed length did does now.now none),
         )) saw)
     bind-saw (at.Count claimed) steps did does own now saw so unraised =
-        count-saw claimed steps did does.planned (count-unbound owner once claimed did does now.now) saw
+        count-saw claimed steps did (hard mix env refl does) (count-unbound owner once claimed did does now.now) saw
     bind-saw (at.Link claimed) steps did does own now saw so unraised =
         WalkedSeeing-push env.geometry claimed.table claimed.shape (RoomSeen env words_at mix port claimed.table claimed.shape)
         (RoomSeen env words_at mix port claimed.table claimed.shape) steps did
-        (aside env.geometry did _ does.planned (λ place load. cc) (λ place value adds. cc))
+        (aside env.geometry did _ (hard mix env refl does) (λ place load. cc) (λ place value adds. cc))
         (λ behind seen. RoomSeen-push env words_at mix port claimed.table claimed.shape behind did
-        (no_key env.geometry did _ does.planned (λ place load. cc)) seen) saw
+        (no_key env.geometry did _ (hard mix env refl does) (λ place load. cc)) seen) saw
     bind-saw (at.Raise claimed) steps did does own now saw so unraised =
-        raise-saw env words_at mix port claimed steps did does.planned saw so unraised
+        raise-saw env words_at mix port claimed steps did (hard mix env refl does) saw so unraised
     bind-saw (at.Publish node table relink kick) steps did does own now saw so unraised =
         published-saw node table kick (relink_after relink).0 (relink_after relink).1 (steps ++ did ∷ [])
         (Raised-push env words_at mix port kick steps did
-        (still env did _ does.planned (relink-no_load relink relink.at) (relink-no_add relink relink.at)
+        (still env did _ (hard mix env refl does) (relink-no_load relink relink.at) (relink-no_add relink relink.at)
         (relink-none env.geometry relink relink.at)) saw)
     bind-saw (at.Unlocking attempt table unlock next) steps did does own now saw so unraised =
         unlocked-saw attempt next (steps ++ did ∷ [])
         (SawThen-push env words_at mix port next steps did
-        (still env did _ does.planned (λ place load. cc) (λ place value adds. cc) (λ table old new l e. cc))
-        (aside env.geometry did _ does.planned (λ place load. cc) (λ place value adds. cc)).stays saw)
+        (still env did _ (hard mix env refl does) (λ place load. cc) (λ place value adds. cc) (λ table old new l e. cc))
+        (aside env.geometry did _ (hard mix env refl does) (λ place load. cc) (λ place value adds. cc)).stays saw)
     bind-saw (at.UnlockingFull growing unlock) steps did does own now saw so unraised =
         Behind-push env.geometry growing.table growing.shape (SawWhy env words_at mix port growing.table growing.why growing.shape)
         (SawWhy env words_at mix port growing.table growing.why growing.shape) steps did
-        (no_load env.geometry did _ does.planned (λ place load. cc)) (no_turn env.geometry did _ does.planned (λ place value adds. cc))
+        (no_load env.geometry did _ (hard mix env refl does) (λ place load. cc)) (no_turn env.geometry did _ (hard mix env refl does) (λ place value adds. cc))
         (λ behind why. SawWhy-push env words_at mix port growing.table growing.why growing.shape behind did
-        (no_key env.geometry did _ does.planned (λ place load. cc)) why) saw
+        (no_key env.geometry did _ (hard mix env refl does) (λ place load. cc)) why) saw
     bind-saw (at.Root growing) steps did does own now saw so unraised =
         Behind-push env.geometry growing.table growing.shape (SawWhy env words_at mix port growing.table growing.why growing.shape)
         (SawRoot env words_at mix port growing (table_of did.old)) steps did
-        (other_load env.geometry did _ does.planned (λ table below same. absurd (omega (arith, same))))
-        (no_turn env.geometry did _ does.planned (λ place value adds. cc))
-        (λ behind why. root-saw env words_at mix port growing behind did does.planned why) saw
+        (other_load env.geometry did _ (hard mix env refl does) (λ table below same. absurd (omega (arith, same))))
+        (no_turn env.geometry did _ (hard mix env refl does) (λ place value adds. cc))
+        (λ behind why. root-saw env words_at mix port growing behind did (hard mix env refl does) why) saw
     bind-saw (at.GrowthCount growing root) steps did does own now saw so unraised =
-        want-saw env words_at mix port c once growing root steps did does.planned
-        (other_load env.geometry did _ does.planned (λ table below same. absurd (omega (arith, same)))) saw
+        want-saw env words_at mix port c once growing root steps did (hard mix env refl does)
+        (other_load env.geometry did _ (hard mix env refl does) (λ table below same. absurd (omega (arith, same)))) saw
     bind-saw (at.Making growing size make) steps did does own now saw so unraised =
         let after = make_after_at make.geometry make.exponent make.nested make.at did.old in
         made-saw env words_at mix port c once growing size make after (steps ++ did ∷ [])
         (Behind-push env.geometry growing.table growing.shape
         (SawToMake env words_at mix port growing size make.exponent make.nested (make.at, Go))
         (SawToMake env words_at mix port growing size make.exponent make.nested after) steps did
-        (make_loads env.geometry make.geometry make.exponent make.seed make.at did does.planned)
-        (make_turns env.geometry make.geometry make.exponent make.seed make.at did does.planned)
+        (make_loads env.geometry make.geometry make.exponent make.seed make.at did (hard mix env refl does))
+        (make_turns env.geometry make.geometry make.exponent make.seed make.at did (hard mix env refl does))
         (λ behind so_far. making-saw env words_at mix port growing size make behind did does.within.at_in.make_in
-        does.planned so_far) saw)
+        (hard mix env refl does) so_far) saw)
     bind-saw (at.FutureAgain growing refusal) steps did does own now saw so unraised =
         again-saw env words_at mix port c once growing refusal (slot_of did.old) steps did
-        does.within.at_in.growing_in.table_in does.planned
+        does.within.at_in.growing_in.table_in (hard mix env refl does)
         (again_few env mix port owner once growing refusal did does) refl saw
     bind-saw (at.Attaching growing slot shape) steps did does own now saw so unraised =
         attach-saw env words_at mix port c once growing slot shape steps did
         does.within.at_in.growing_in.table_in does.within.at_in.slot_in
-        does.planned (attaching_few env mix port owner once growing slot shape did does) saw
+        (hard mix env refl does) (attaching_few env mix port owner once growing slot shape did does) saw
     bind-saw (at.Unmaking attempt unmake answer) steps did does own now saw so unraised =
         unmade-saw env words_at mix port c once attempt answer (unmake_after unmake did.old).0
         (unmake_after unmake did.old).1 (steps ++ did ∷ [])
         (SawForReply-push env words_at mix port answer steps did
-        (still env did _ does.planned (unmake-no_load unmake.geometry unmake.slot unmake.at)
+        (still env did _ (hard mix env refl does) (unmake-no_load unmake.geometry unmake.slot unmake.at)
         (unmake-no_add unmake.geometry unmake.slot unmake.at)
         (unmake-none env.geometry unmake.geometry unmake.slot unmake.at)) saw.0)
-        (unmake-own env.geometry unmake.geometry unmake.slot unmake.at steps did does.planned saw.1)
+        (unmake-own env.geometry unmake.geometry unmake.slot unmake.at steps did (hard mix env refl does) saw.1)
     bind-saw (at.Closing ending) steps did does own now saw so unraised =
-        closed-saw ending steps did (turning-still env does.caller did does.planned) saw
+        closed-saw ending steps did (turning-still env does.caller did (hard mix env refl does)) saw
     bind-saw (at.Giving give reply) steps did does own now saw so unraised =
         SawFor-push env words_at mix port reply steps did
-        (still env did _ does.planned (λ place load. cc) (λ place value adds. cc) (λ table old new l e. cc))
+        (still env did _ (hard mix env refl does) (λ place load. cc) (λ place value adds. cc) (λ table old new l e. cc))
         saw

@@ -53,7 +53,7 @@ use Rattle.rht_core.specs.FewPorts.{IsNoTableMade, IsCallTaken}
 use Rattle.rht_stands.specs.StandsFor.{stands_for, AreBound}
 use Rattle.rht_core.specs.Traces.{Did}
 use Rattle.rht_ghost.proofs.Theory.Steps.{by_test}
-use Rattle.rht_core.proofs.Tracing.TracedJobs.{Performs}
+use Rattle.rht_core.proofs.Tracing.TracedJobs.{hard, found_as, Performs}
 use Rattle.rht_core.proofs.Reasons.CalmBinds.{CalmBind, IsCalmAt}
 use Rattle.rht_bind.specs.Bind.{plan_at, IsBindAtIn}
 
@@ -220,7 +220,7 @@ module _ (env : Env) where
       }
         where
           found : did.old ≡ old_of words (plan_at env does.caller state)
-          found = does.found ∙ ap (old_of does.words) does.planned ∙ ap (λ w. old_of w (plan_at env does.caller state)) now
+          found = found_as mix env does ∙ ap (λ w. old_of w (plan_at env does.caller state)) now
 
           loads : (m : LocateModel) → m.at ≡ locates.Shape → old_of words (locate_plan m) ≡ word_at env.geometry words (Slot m.table ShapeWord)
           loads m shape = rw shape refl
@@ -278,7 +278,7 @@ module _ (env : Env) where
       calm-work work_at.WorkLock does now calm = calm-lock did.old
       calm-work (work_at.Returning returns) does now calm =
           let plan : did.op ≡ return_tables_plan_at env.geometry returns.at =
-          does.planned ∙ ap (λ (h : Geometry). return_tables_plan_at h returns.at) does.within.geometry_same in
+          hard mix env refl does ∙ ap (λ (h : Geometry). return_tables_plan_at h returns.at) does.within.geometry_same in
           let found : did.old ≡ old_of words (return_tables_plan_at env.geometry returns.at) =
           does.found ∙ ap (old_of does.words) plan ∙ ap (λ w. old_of w (return_tables_plan_at env.geometry returns.at)) now in
           let after = return_tables_after returns did.old in
@@ -289,11 +289,11 @@ module _ (env : Env) where
           unretired slot low (sym (found ∙ ap (λ s. old_of words (return_tables_plan_at env.geometry s)) is) ∙ two)))
       calm-work work_at.Opening does now calm = tt
       calm-work work_at.CurrentTable does now calm =
-          ap table_of (does.found ∙ ap (old_of does.words) does.planned) ∙ ap (λ w. table_of (word_at env.geometry w CurrentTable)) now
+          ap table_of (found_as mix env does) ∙ ap (λ w. table_of (word_at env.geometry w CurrentTable)) now
           ∙ current-first
       calm-work (work_at.LastTable root seek) does now calm =
           let plan : did.op ≡ last_table_plan_at env.geometry seek.at =
-          does.planned ∙ ap (λ (h : Geometry). last_table_plan_at h seek.at) does.within.seek_in.geometry_same in
+          hard mix env refl does ∙ ap (λ (h : Geometry). last_table_plan_at h seek.at) does.within.seek_in.geometry_same in
           let found : did.old ≡ old_of words (last_table_plan_at env.geometry seek.at) =
           does.found ∙ ap (old_of does.words) plan ∙ ap (λ w. old_of w (last_table_plan_at env.geometry seek.at)) now in
           calm-last root seek seek.at did.old calm
@@ -302,12 +302,12 @@ module _ (env : Env) where
           (λ slot is zero. found ∙ ap (λ s. old_of words (last_table_plan_at env.geometry s)) is ∙ shape-first slot zero)
       calm-work (work_at.Count root last) does now calm =
           let found : did.old ≡ word_at env.geometry words PortCount =
-          does.found ∙ ap (old_of does.words) does.planned ∙ ap (λ w. word_at env.geometry w PortCount) now in
+          found_as mix env does ∙ ap (λ w. word_at env.geometry w PortCount) now in
           calm-begun root last (choice_of env did.old last.shape (root == last.table))
           (none-due roomy did.old last.shape (root == last.table) (omega (arith, found, has.count)) calm)
       calm-work (work_at.RootFuture root due) does now calm =
           let found : did.old ≡ word_at env.geometry words (Slot root FutureWord) =
-          does.found ∙ ap (old_of does.words) does.planned ∙ ap (λ w. word_at env.geometry w (Slot root FutureWord)) now in
+          found_as mix env does ∙ ap (λ w. word_at env.geometry w (Slot root FutureWord)) now in
           subst (λ f. CalmWork (work.future_or_idle root due f)) (sym (ap slot_of found ∙ future-none root does.within)) refl
       calm-work (work_at.Closing ending) does now calm = subst (λ e. CalmWork (work.closed e)) (sym calm) refl
       calm-work (work_at.LettingGo outcome) does now calm = rw calm (λ is. absurd (cc))

@@ -45,7 +45,7 @@ use Rattle.rht_words.specs.Machines.{GoesOrEnds}
 use Rattle.rht_core.proofs.Tracing.RepliesInRuns.{Holds, Answered, runs-right}
 use Rattle.rht_core.proofs.Tracing.TracesAtEvents.{at_events}
 use Rattle.rht_core.proofs.Events.JobsOfCallers.{first_tidy-so, first-of}
-use Rattle.rht_core.proofs.Tracing.TracedJobs.{Performs, StandsIn, LeadsOn, IsEndedSo, jobs_keep_own}
+use Rattle.rht_core.proofs.Tracing.TracedJobs.{hard, Performs, StandsIn, LeadsOn, IsEndedSo, jobs_keep_own}
 use Rattle.rht_move.specs.Work as work
 use Rattle.rht_core.proofs.Reasons.WorksSeen.{SawForWork, SawAtWork}
 use Rattle.rht_core.proofs.Reasons.WorkStepsSeen.{work-saw}
@@ -125,8 +125,8 @@ module _ (M : Type 0) (mix : ℕ → ℕ → ℕ → ℕ) (env : Env) (events : 
       (after_at mix env port once state did.old)
       (all-saw env words_at mix port c (after_at mix env port once state did.old) (steps ++ did ∷ [])
       (bind-saw env words_at mix port c owner once state steps did performs own now saw.0 saw.1.0 saw.1.1)
-      (attached-saw env mix performs.caller port once state steps did performs.within.at_in performs.planned saw.1.0)
-      (unraised-saw env mix performs.caller port once state steps did performs.planned saw.1.1))
+      (attached-saw env mix performs.caller port once state steps did performs.within.at_in (hard mix env refl performs) saw.1.0)
+      (unraised-saw env mix performs.caller port once state steps did (hard mix env refl performs) saw.1.1))
   job-leads (lists port room state) steps did performs own now saw =
       let after = all.room_after state room did.old in
       let next = all.after_at mix env port state did.old in
@@ -135,7 +135,7 @@ module _ (M : Type 0) (mix : ℕ → ℕ → ℕ → ℕ) (env : Env) (events : 
   job-leads (releases port owner state) steps did performs own now saw =
       let next = release.after_at mix env port owner state did.old in
       next-leads (releases port owner state) (releases port owner) node_ending (steps ++ did ∷ []) next
-      (release-saw env mix performs.caller port owner state steps did performs.within performs.planned saw)
+      (release-saw env mix performs.caller port owner state steps did performs.within (hard mix env refl performs) saw)
   job-leads (rebinds port owner new state) steps did performs own now saw =
       next-leads (rebinds port owner new state) (rebinds port owner new) node_ending (steps ++ did ∷ [])
       (rebind.after_at mix env port owner state did.old)
@@ -145,7 +145,7 @@ module _ (M : Type 0) (mix : ℕ → ℕ → ℕ → ℕ) (env : Env) (events : 
       (work-saw env c words_at mix state steps did performs own now.now saw)
   job-leads (tidies batch state) steps did performs own now saw =
       next-leads (tidies batch state) tidying plain_ending (steps ++ did ∷ []) (tidied (tidy.after_at env.geometry batch state did.old))
-      (tidy-saw env.geometry batch state steps did performs.within performs.planned saw)
+      (tidy-saw env.geometry batch state steps did performs.within (hard mix env refl performs) saw)
   job-leads (walks from limit room state) steps did performs own now saw =
       let after = walk.room_after state room did.old in
       let next = walk_gone env from limit room after state did.old in

@@ -1,6 +1,8 @@
 -- What is kept of each operation of a call, with those before it: where it changes a word of a slot's table the call has the slot, or attaches
 -- the table that it has made. It makes another table the current one only as a resizing, takes, gives back and retires slots as it may, and
 -- enters a missing page only on its way.
+use Rattle.rht_core.specs.Jobs.{job_plan}
+use Rattle.rht_core.proofs.Events.RangesInRuns.{soft-in}
 use Rattle.std.proofs.Common.{◌≡◌, ◌⊎◌, ◌*◌, ◌%◌, ◌<◌, ℕ, true, false, List, [], ◌∷◌, ◌++◌, Option, Some, None, inl, inr, refl, sym, ap, ◌∙◌, subst, arith}
 use Rattle.std.specs.Prelude.{min, max, ◌≤◌, take, drop}
 use Rattle.std.specs.List.{AllByRecursion}
@@ -27,6 +29,7 @@ use Rattle.rht_core.specs.Traces.{Did, performed_of}
 use Rattle.rht_core.specs.Seen.{StaysInSection, TurnsNoSection, words_before}
 use Rattle.rht_core.specs.ResizeCauses.{Attaches}
 use Rattle.rht_core.specs.Attached.{ChangesMissing, ChangesLeading, ChangesKept, KeepsWordOf, EnterCause, HasGoneOn, ChangesWorkLock, HasWorkLock, WorkLockCause, ChangesTable, ChangesCurrent, MovesOn, HasTakenSlot, EachBehind, AttachesDue, IsOwnTable, ChangesState, StateCause, MakesTables, RetiresTable, ReturnsRetired}
+use Rattle.rht_ghost.proofs.Pieces.HeldSections.{of_its_own}
 use Rattle.rht_ghost.proofs.Theory.Ghosts.{Ghost, IsSince, PageHeld, has_table, SlotHeld, index_at}
 use Rattle.rht_ghost.proofs.Theory.Wholes.{Whole, force-there, IsThere, AreThereFrom, slot-there}
 use Rattle.rht_ghost.proofs.Theory.Steps.{mem, ghost_after, Holding, Does}
@@ -43,7 +46,7 @@ use Rattle.rht_core.proofs.Machines.NeverHeld.{worker_works}
 use Rattle.rht_core.proofs.Events.RangesInRuns.{planned_job, words_fit}
 use Rattle.rht_core.proofs.Events.JobsOfCallers.{same_call, first_holds}
 use Rattle.rht_core.proofs.Meaning.TablesInForce.{in_force_is, leads_to_current}
-use Rattle.rht_core.proofs.Tracing.TracedJobs.{Performs, StandsIn, LeadsOn}
+use Rattle.rht_core.proofs.Tracing.TracedJobs.{hard_by, hard, Performs, StandsIn, LeadsOn}
 use Rattle.rht_core.proofs.Reasons.MadeSizes.{made_flat}
 use Rattle.rht_core.proofs.Reasons.SlotsTaken.{each-push}
 use Rattle.rht_core.proofs.Reasons.TableWordsKept.{FitBefore, KeepsHere, kept_by_move, by_move, current_by_move, StateHere, state_by_move, TakesWorkHere, GivesWorkHere, lock_by_move, worker_by_move}
@@ -174,7 +177,8 @@ module _ (M : Type 0) (mix : ℕ → ℕ → ℕ → ℕ) (env : Env) (events : 
         found = old;
         left = word_after-fits did.old did.op old
             (subst (λ op. IsWord (op_value op)) (sym performs.planned)
-            (planned_job env mix performs.caller job performs.few performs.within).fits);
+            (soft-in env.geometry performs.over (job_plan env performs.caller job)
+            (planned_job env mix performs.caller job performs.few performs.within)).fits);
       }
 
   -- the words before each event do
@@ -286,14 +290,14 @@ module _ (M : Type 0) (mix : ℕ → ℕ → ℕ → ℕ) (env : Env) (events : 
 
     entered : (job : Job) (entry : ℕ) (performs : Performs mix env job did) → performs.words ≡ words_at did.index
         → JobSaw env c words_at mix job steps → refusals.Going M mix env events c job steps → entry < 64 * g.pages
-        → (there : EntersThere env mix performs.caller performs.ghost did (held_of job) (held_next (job_after mix env job did.old)) entry)
+        → (there : EntersThere env mix performs.caller performs.ghost did (of_its_own performs.over (held_of job)) (of_its_own performs.over (held_next (job_after mix env job did.old))) entry)
         → EnterCause g words_at mix (call_of job) entry steps did
     entered job entry performs now saw going low there =
         let page = there.page in
         let is_early = early env mix performs.caller (mem env mix performs.words) performs.ghost did entry page there.does.entering job
-        performs.within performs.planned there.does.had in
+        performs.within (hard_by mix env performs _ tt there.does.entering) there.does.had in
         let enters = enters_now env mix performs.caller (mem env mix performs.words) performs.ghost did entry page there.does.entering job
-        performs.within performs.planned there.does.had in
+        performs.within (hard_by mix env performs _ tt there.does.entering) there.does.had in
         let took = has_taken job is_early (enters-behind env entry page job enters) going page there.does.had in
         entering job entry page enters performs now saw took
         (record {
@@ -305,7 +309,7 @@ module _ (M : Type 0) (mix : ℕ → ℕ → ℕ → ℕ) (env : Env) (events : 
 
     -- an entry at which a way ends isn't cleared
     uncleared : (job : Job) (entry slot : ℕ) (performs : Performs mix env job did) → IsWaysEnd g performs.words slot entry
-        → ClearsThere env mix performs.caller performs.ghost did (held_of job) (held_next (job_after mix env job did.old)) entry → ⊥
+        → ClearsThere env mix performs.caller performs.ghost did (of_its_own performs.over (held_of job)) (of_its_own performs.over (held_next (job_after mix env job did.old))) entry → ⊥
     uncleared job entry slot performs way there =
         let words = performs.words in
         let none = ends_nowhere (λ i. word_at g words (PageWord i)) (nested_place g (shape_of g words slot) way.bucket) entry way.ends in
@@ -317,9 +321,11 @@ module _ (M : Type 0) (mix : ℕ → ℕ → ℕ → ℕ) (env : Env) (events : 
 
     -- what the operation does to what the call has
     pub does_now : (job : Job) (performs : Performs mix env job did)
-        → Does env mix performs.step.move did.op did.old (held_of job) (held_next (job_after mix env job did.old))
+        → Does env mix performs.step.move did.op did.old (of_its_own performs.over (held_of job))
+        (of_its_own performs.over (held_next (job_after mix env job did.old)))
     does_now job performs =
-        subst (λ old. Does env mix performs.step.move did.op old (held_of job) (held_next (job_after mix env job did.old)))
+        subst (λ old. Does env mix performs.step.move did.op old (of_its_own performs.over (held_of job))
+        (of_its_own performs.over (held_next (job_after mix env job did.old))))
         (sym performs.found) performs.step.does
 
     -- an entry that leads to a page isn't changed, where its table is in force, or the caller's open section comes to it
@@ -334,7 +340,7 @@ module _ (M : Type 0) (mix : ℕ → ℕ → ℕ → ℕ) (env : Env) (events : 
         entry_used env mix words G performs.whole changed.table index has.at
         (subst (λ ws. IsEntryOfTable g ws (shape_of g ws changed.table) index) (sym now) changed.entry) in
         let next = job_after mix env job did.old in
-        elim (entered_by_move env mix performs.caller words G did (held_of job) (held_next next) performs.whole performs.all performs.found
+        elim (entered_by_move env mix performs.caller words G did (of_its_own performs.over (held_of job)) (of_its_own performs.over (held_next next)) performs.whole performs.all performs.found
         index changed.index_in used.0 changed.there changed.other fits performs.step.move performs.step.ready performs.step.made.whole
         (does_now job performs)) [
           | inl enters ↦
@@ -390,7 +396,7 @@ module _ (M : Type 0) (mix : ℕ → ℕ → ℕ → ℕ) (env : Env) (events : 
     -- one that gives back retired tables changes no word that says something of a table
     returning-spares : (job : Job) → IsReturning job → Performs mix env job did → (slot : ℕ) → ChangesTable g slot did → ⊥
     returning-spares job (by_returning returns) performs slot changed =
-        returns-spare g did slot changed returns.geometry returns.at performs.planned
+        returns-spare g did slot changed returns.geometry returns.at (hard mix env refl performs)
 
     returning_works : (job : Job) → IsReturning job → call_of job ≡ Work
     returning_works job (by_returning returns) = refl
@@ -401,11 +407,11 @@ module _ (M : Type 0) (mix : ℕ → ℕ → ℕ → ℕ) (env : Env) (events : 
         → ReturnsRetired g slot steps did
     returned job (by_returning returns) slot performs saw taken changed gives =
         returns-free env mix performs.caller performs.words performs.ghost performs.whole steps did performs.found slot changed.slot_in gives
-        (taken refl) returns.geometry returns.at performs.planned saw.of_slot performs.knows.knowing.means.making
+        (taken refl) returns.geometry returns.at (hard mix env refl performs) saw.of_slot performs.knows.knowing.means.making
 
     stated : (job : Job) (slot : ℕ) (performs : Performs mix env job did) → performs.words ≡ words_at did.index
         → JobSaw env c words_at mix job steps → HasTakenWork job steps → ChangesState g slot did
-        → StateHere env mix performs.caller (mem env mix performs.words) performs.ghost did (held_of job) (held_next (job_after mix env job did.old)) slot
+        → StateHere env mix performs.caller (mem env mix performs.words) performs.ghost did (of_its_own performs.over (held_of job)) (of_its_own performs.over (held_next (job_after mix env job did.old))) slot
         → StateCause M mix env events c (call_of job) slot steps did
     stated job slot performs now saw taken changed (inl takes) =
         inl (makes_then job slot (job_after mix env job did.old) (same_call mix env job did.old) takes.has, takes.takes)
@@ -417,7 +423,7 @@ module _ (M : Type 0) (mix : ℕ → ℕ → ℕ → ℕ) (env : Env) (events : 
     stated job slot performs now saw taken changed (inr (inr here)) =
         let there = mem env mix performs.words in
         let now_retires =
-        retires_now env mix performs.caller there performs.ghost did slot here.can here.stores job performs.planned here.moves performs.knows in
+        retires_now env mix performs.caller there performs.ghost did slot here.can here.stores job (hard_by mix env performs _ tt here.stores) here.moves performs.knows in
         let gone = gone_on env mix performs.caller there performs.ghost did slot here.can here.stores c words_at steps job now_retires saw in
         inr (inr (inl (
           moving_works job here.moves,
@@ -427,17 +433,17 @@ module _ (M : Type 0) (mix : ℕ → ℕ → ℕ → ℕ) (env : Env) (events : 
 
     -- a section word is kept by a resizing, which has just loaded it
     kept_word : (job : Job) (slot caller : ℕ) (performs : Performs mix env job did) → JobSaw env c words_at mix job steps
-        → KeepsHere env mix performs.caller (mem env mix performs.words) performs.ghost did (held_of job)
-        (held_next (job_after mix env job did.old)) slot
+        → KeepsHere env mix performs.caller (mem env mix performs.words) performs.ghost did (of_its_own performs.over (held_of job))
+        (of_its_own performs.over (held_next (job_after mix env job did.old))) slot
         → HasWorkLock g steps → ChangesKept g slot caller did → (call_of job ≡ Work) × KeepsWordOf g slot caller steps did
     kept_word job slot caller performs saw here lock changed =
         by_now job (keeps_now env mix performs.caller (mem env mix performs.words) performs.ghost performs.whole did slot here.caller here.word
-        here.table here.caller_in here.retiring here.stores job performs.planned here.moves performs.knows) performs saw
+        here.table here.caller_in here.retiring here.stores job (hard_by mix env performs _ tt here.stores) here.moves performs.knows) performs saw
       where
         by_now : (job : Job) → KeepsNow job → Performs mix env job did → JobSaw env c words_at mix job steps
             → (call_of job ≡ Work) × KeepsWordOf g slot caller steps did
         by_now job (by_keeping keep again) performs saw =
-            (refl, keeps-word g keep performs.within steps did performs.planned saw.1 slot caller changed lock)
+            (refl, keeps-word g keep performs.within steps did (hard mix env refl performs) saw.1 slot caller changed lock)
 
     -- a call whose job has the work lock behind the operation is a resizing
     works_then : (job : Job) (next : Job × Next Ending) → call_of next.0 ≡ call_of job → (held_next next).worker ≡ true → call_of job ≡ Work
@@ -448,11 +454,13 @@ module _ (M : Type 0) (mix : ℕ → ℕ → ℕ → ℕ) (env : Env) (events : 
     fits_now job performs now = fit_before job did performs (subst (AllByRecursion IsWord) (sym now) (words_fit_at admitted did.index))
 
     work_lock : (job : Job) (performs : Performs mix env job did) → performs.words ≡ words_at did.index → ChangesWorkLock g did
-        → TakesWorkHere env mix performs.caller (mem env mix performs.words) performs.ghost did (held_of job) (held_next (job_after mix env job did.old))
-        ⊎ GivesWorkHere env mix performs.caller (mem env mix performs.words) performs.ghost did (held_of job) (held_next (job_after mix env job did.old))
+        → TakesWorkHere env mix performs.caller (mem env mix performs.words) performs.ghost did (of_its_own performs.over (held_of job))
+        (of_its_own performs.over (held_next (job_after mix env job did.old)))
+        ⊎ GivesWorkHere env mix performs.caller (mem env mix performs.words) performs.ghost did (of_its_own performs.over (held_of job))
+        (of_its_own performs.over (held_next (job_after mix env job did.old)))
     work_lock job performs now changed =
-        lock_by_move env mix performs.caller (mem env mix performs.words) performs.ghost did (held_of job)
-        (held_next (job_after mix env job did.old)) (fits_now job performs now) changed performs.step.move performs.step.ready
+        lock_by_move env mix performs.caller (mem env mix performs.words) performs.ghost did (of_its_own performs.over (held_of job))
+        (of_its_own performs.over (held_next (job_after mix env job did.old))) (fits_now job performs now) changed performs.step.move performs.step.ready
         (does_now job performs)
 
     -- it has taken the work lock still, or has done so now
@@ -460,7 +468,8 @@ module _ (M : Type 0) (mix : ℕ → ℕ → ℕ → ℕ) (env : Env) (events : 
         → (held_next (job_after mix env job did.old)).worker ≡ true → HasWorkLock g (steps ++ did ∷ [])
     worked job performs now taken has =
         let next = held_next (job_after mix env job did.old) in
-        elim (worker_by_move env mix performs.caller (mem env mix performs.words) performs.ghost did (held_of job) next performs.step.move
+        elim (worker_by_move env mix performs.caller (mem env mix performs.words) performs.ghost did (of_its_own performs.over (held_of job))
+        (of_its_own performs.over next) performs.step.move
         (does_now job performs) has) [
           | inr takes ↦ record { before = steps; at = did; behind = []; split = refl; takes = takes; kept = tt }
           | inl had ↦
@@ -499,7 +508,7 @@ module _ (M : Type 0) (mix : ℕ → ℕ → ℕ → ℕ) (env : Env) (events : 
           (λ entry puts.
           enters-binds env entry page job is
           (enters_now env mix performs.caller (mem env mix performs.words) performs.ghost did entry page puts.exchanges job
-          performs.within performs.planned i));
+          performs.within (hard_by mix env performs _ tt puts.exchanges) i));
     }
 
     -- so it has behind the operation, by which no page of its own is given back or entered
@@ -507,7 +516,7 @@ module _ (M : Type 0) (mix : ℕ → ℕ → ℕ → ℕ) (env : Env) (events : 
         → Whole env mix (mem env mix (applied performs.words did.op)) G
         → JobNext env mix performs.caller next (mem env mix (applied performs.words did.op)) G
         → ((page : ℕ) → G.page page ≡ PageHeld performs.caller
-        → HadOrTakes env mix performs.caller performs.words performs.ghost did page (held_of job) (held_next next) G)
+        → HadOrTakes env mix performs.caller performs.words performs.ghost did page (of_its_own performs.over (held_of job)) (of_its_own performs.over (held_next next)) G)
         → (IsReturning job → (page : ℕ) → In page (held_next next).pages → IsReturning next.0) → call_of next.0 ≡ call_of job
         → HasTakenPages job steps → IfGoes next (λ after. HasTakenPages after (steps ++ did ∷ []))
     pages_then job performs (after, Done ending) G then knows by returns same paged = tt
@@ -541,7 +550,7 @@ module _ (M : Type 0) (mix : ℕ → ℕ → ℕ → ℕ) (env : Env) (events : 
         let fits = fits_now job performs now in
         let does = does_now job performs in
         record {
-          tables = λ slot changed. elim (by_move env mix performs.caller there performs.ghost did (held_of job) (held_next next) slot fits
+          tables = λ slot changed. elim (by_move env mix performs.caller there performs.ghost did (of_its_own performs.over (held_of job)) (of_its_own performs.over (held_next next)) slot fits
               changed step.move step.ready does) [
                 | inl has ↦
                     elim (own_slot env c words_at mix performs.caller there performs.ghost steps slot job performs.knows saw has) [
@@ -550,21 +559,21 @@ module _ (M : Type 0) (mix : ℕ → ℕ → ℕ → ℕ) (env : Env) (events : 
                     ]
                 | inr here ↦
                     inr (attaching job slot here.made_slot
-                    (attaches_now env performs.caller did here.made_slot slot here.attaches job performs.planned here.has)
+                    (attaches_now env performs.caller did here.made_slot slot here.attaches job (hard_by mix env performs _ tt here.attaches.exchanges) here.has)
                     here.attaches performs now saw going paged)
               ];
           current = λ changed.
-              let publishing = current_by_move env mix performs.caller performs.words performs.ghost did (held_of job) (held_next next)
+              let publishing = current_by_move env mix performs.caller performs.words performs.ghost did (of_its_own performs.over (held_of job)) (of_its_own performs.over (held_next next))
               performs.whole performs.all performs.found fits changed step.move step.ready step.made.whole does in
               (moving_works job publishing.moves, taken (moving_has job publishing.moves), subst (λ ws. MovesOn g ws did) now publishing.on);
           states = λ slot changed.
               stated job slot performs now saw taken changed
-              (state_by_move env mix performs.caller there performs.ghost did (held_of job) (held_next next) slot fits changed step.move
+              (state_by_move env mix performs.caller there performs.ghost did (of_its_own performs.over (held_of job)) (of_its_own performs.over (held_next next)) slot fits changed step.move
               step.ready does);
           entries = λ entry changed had.
               let has = stands.stayed did.index changed.table (inl refl) (subst (λ k. HadTable g words_at k did.index changed.table) (sym own) had) in
               let way = subst (λ ws. IsWaysEnd g ws changed.table entry) (sym now) changed.way in
-              elim (entered_by_move env mix performs.caller performs.words performs.ghost did (held_of job) (held_next next) performs.whole
+              elim (entered_by_move env mix performs.caller performs.words performs.ghost did (of_its_own performs.over (held_of job)) (of_its_own performs.over (held_next next)) performs.whole
               performs.all performs.found entry changed.entry_in
               (missing_is_entry env mix performs.words performs.ghost performs.whole entry changed.table way has.at) changed.there
               changed.other fits step.move step.ready step.made.whole does) [
@@ -572,7 +581,7 @@ module _ (M : Type 0) (mix : ℕ → ℕ → ℕ → ℕ) (env : Env) (events : 
                 | inr clears ↦ absurd (uncleared job entry changed.table performs way clears)
               ];
           kept = λ slot caller changed.
-              let here = kept_by_move env mix performs.caller there performs.ghost did (held_of job) (held_next next) slot caller fits changed
+              let here = kept_by_move env mix performs.caller there performs.ghost did (of_its_own performs.over (held_of job)) (of_its_own performs.over (held_next next)) slot caller fits changed
               step.move step.ready does in
               kept_word job slot caller performs saw here (taken (moving_has job here.moves)) changed;
           leading = λ index changed had yet.
@@ -605,13 +614,13 @@ module _ (M : Type 0) (mix : ℕ → ℕ → ℕ → ℕ) (env : Env) (events : 
         by_next job (job_after mix env job did.old) (same_call mix env job did.old)
         (each-push (ChangesSeen (call_of job)) [] steps did each (changes job performs own stands saw going taken paged))
         (job-leads M mix env events c job steps did performs own stands saw)
-        (refusals.goes M mix env events c job steps did performs own stands.now stands.giving (saw-came env c words_at mix job steps saw) going)
+        (refusals.goes M mix env events c job steps did performs stands.rests own stands.now stands.giving (saw-came env c words_at mix job steps saw) going)
         (worked job performs stands.now taken)
         (pages_then job performs (job_after mix env job did.old) (ghost_after env mix performs.caller performs.step.move performs.ghost)
         performs.step.made.whole performs.step.knows
         (λ page held.
-        held_by_move env mix performs.caller performs.words performs.ghost did page performs.step.move (held_of job)
-        (held_next (job_after mix env job did.old)) performs.step.ready (does_now job performs) held)
+        held_by_move env mix performs.caller performs.words performs.ghost did page performs.step.move (of_its_own performs.over (held_of job))
+        (of_its_own performs.over (held_next (job_after mix env job did.old))) performs.step.ready (does_now job performs) held)
         (λ returning page i. still_returning mix env job did.old page returning i) (same_call mix env job did.old) paged)
 
   -- a call has no work lock and no pages at its beginning

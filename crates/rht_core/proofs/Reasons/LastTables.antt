@@ -1,5 +1,6 @@
 -- Which table is the last one, whatever is known of it: the words say so. It stays the last one while the words of tables stay, and
 -- behind an operation that attaches none; and behind one that attaches a table it is that one.
+use Rattle.rht_ghost.proofs.Pieces.HeldSections.{of_its_own}
 use Rattle.std.proofs.Common.{◌≡◌, ◌⊎◌, ℕ, zero, suc, ◌+◌, ◌-◌, ◌<◌, cond, List, length, refl, sym, ap, ◌∙◌, subst, inl, inr, arith}
 use Rattle.std.specs.Prelude.{Some, None}
 use Rattle.std.proofs.lemmas.Bool.{cases_lt, lt-ltb, le-ltb}
@@ -240,10 +241,10 @@ module _ (env : Env) (mix : ℕ → ℕ → ℕ → ℕ) where
               let ready : IsAttaching env mix does.caller attach.slot attach.shape attach.seed attach.serial M G =
               subst (ReadyFor env mix does.caller M G) attach.is step.ready in
               let attaches : DoesAttach env.geometry attach.slot did.op (old_of does.words did.op)
-              (held_of (works (at.Attaching root last slot shape)))
-              (bare (held_next (job_after mix env (works (at.Attaching root last slot shape)) did.old))) =
-              subst (λ m. Does env mix m did.op (old_of does.words did.op) (held_of (works (at.Attaching root last slot shape)))
-              (held_next (job_after mix env (works (at.Attaching root last slot shape)) did.old))) attach.is step.does in
+              (of_its_own does.over (held_of (works (at.Attaching root last slot shape))))
+              (bare (of_its_own does.over (held_next (job_after mix env (works (at.Attaching root last slot shape)) did.old)))) =
+              subst (λ m. Does env mix m did.op (old_of does.words did.op) (of_its_own does.over (held_of (works (at.Attaching root last slot shape))))
+              (of_its_own does.over (held_next (job_after mix env (works (at.Attaching root last slot shape)) did.old)))) attach.is step.does in
               let slots : attach.slot ≡ slot = some-same attach.slot slot (sym attaches.has) in
               let new = made_table attach.slot attach.shape attach.seed attach.serial in
               subst (λ (H : Ghost). IsLast H slot shape) (sym (ap (λ m. ghost_after env mix does.caller m G) attach.is)) (record {

@@ -48,7 +48,7 @@ use Rattle.rht_core.specs.ListedOwners.{is_owner_word, loads_owner, owner_loaded
 use Rattle.rht_ghost.proofs.Theory.Steps.{mem}
 use Rattle.rht_release.proofs.AllSteps.{AllKnows, kept}
 use Rattle.rht_core.proofs.Events.JobsOfCallers.{first_tidy-so, each_goes, same_call, first-of}
-use Rattle.rht_core.proofs.Tracing.TracedJobs.{Performs, LeadsOn, jobs_keep}
+use Rattle.rht_core.proofs.Tracing.TracedJobs.{hard, Performs, LeadsOn, jobs_keep}
 
 -- ---- one operation more
 
@@ -175,7 +175,7 @@ module _ (mix : ℕ → ℕ → ℕ → ℕ) (env : Env) where
       keeps_one found node performs =
           let words = performs.words in
           let knows = performs.knows in
-          let place : did.op ≡ Load (place_of g (Node node OwnerWord)) = performs.planned in
+          let place : did.op ≡ Load (place_of g (Node node OwnerWord)) = (hard mix env refl performs) in
           let old : did.old ≡ word_at g words (Node node OwnerWord) =
           performs.found ∙ ap (old_of words) place in
           let known : AllKnows env mix performs.caller port room (listing.Owner found node) (mem env mix words)
@@ -192,15 +192,15 @@ module _ (mix : ℕ → ℕ → ℕ → ℕ) (env : Env) where
 
       listing_keeps : (state : AllAt) → Performs mix env (lists port room state) did
           → (room_after state room did.old).items ≡ owners_loaded g (steps ++ did ∷ [])
-      listing_keeps listing.Opening performs = leaves _ performs.planned refl
+      listing_keeps listing.Opening performs = leaves _ (hard mix env refl performs) refl
       listing_keeps (listing.Seeking seek) performs =
-          leaves (seek_plan seek) performs.planned (seek_loads_none g seek performs.within.at_in)
+          leaves (seek_plan seek) (hard mix env refl performs) (seek_loads_none g seek performs.within.at_in)
       listing_keeps (listing.Owner found node) performs = keeps_one found node performs
       listing_keeps (listing.ListLink found node) performs =
-          leaves (Load (place_of g (Node node ListLink))) performs.planned
+          leaves (Load (place_of g (Node node ListLink))) (hard mix env refl performs)
           (at_other g (Node node ListLink) performs.within.at_in.node_in refl)
-      listing_keeps (listing.Unlocking table unlock) performs = leaves _ performs.planned refl
-      listing_keeps listing.Closing performs = leaves _ performs.planned refl
+      listing_keeps (listing.Unlocking table unlock) performs = leaves _ (hard mix env refl performs) refl
+      listing_keeps listing.Closing performs = leaves _ (hard mix env refl performs) refl
 
   -- ---- jobs
 

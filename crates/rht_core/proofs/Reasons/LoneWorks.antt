@@ -55,7 +55,7 @@ use Rattle.rht_core.specs.Traces.{Did}
 use Rattle.rht_core.specs.Seen.{TurnsSection}
 use Rattle.rht_ghost.proofs.Theory.Steps.{mem, by_test}
 use Rattle.rht_ghost.proofs.Theory.Wholes.{IsAt}
-use Rattle.rht_core.proofs.Tracing.TracedJobs.{Performs}
+use Rattle.rht_core.proofs.Tracing.TracedJobs.{hard, Performs}
 use Rattle.rht_core.proofs.Reasons.AttachedTables.{IsNoFutureExchange, lock-none, make-none}
 use Rattle.rht_core.proofs.Reasons.MadeSizes.{made_flat}
 use Rattle.rht_core.proofs.Reasons.LastTables.{AreSame, one_shape, IsLastIn, none_last, last_shape, last_in, last_stays, finds_none, attached_last}
@@ -277,7 +277,7 @@ module _ (env : Env) (c : ℕ) (words_at : ℕ → List ℕ) (mix : ℕ → ℕ 
         → IsLastIn env mix now slot shape
     leaves slot shape none last =
         last_stays env mix (works state) did does now still slot shape
-        (subst (IsNoFutureExchange env.geometry) (sym does.planned) none) last
+        (subst (IsNoFutureExchange env.geometry) (sym (hard mix env refl does)) none) last
 
     leaves-flat : IsNoFutureExchange env.geometry (plan_at env does.caller state) → LastFlat does.words → LastFlat now
     leaves-flat none calm = record {
@@ -290,7 +290,7 @@ module _ (env : Env) (c : ℕ) (words_at : ℕ → List ℕ) (mix : ℕ → ℕ 
   -- what a load of a table's words finds
   found-word : (state : WorkAt) (did : Did) (does : Performs mix env (works state) did) (op : Op) → plan_at env does.caller state ≡ op
       → did.old ≡ old_of does.words op
-  found-word state did does op is = does.found ∙ ap (old_of does.words) (does.planned ∙ is)
+  found-word state did does op is = does.found ∙ ap (old_of does.words) (hard mix env refl does ∙ is)
 
   -- a table that is there and has no future is the last one
   ends-here : (job : WorkAt) (did : Did) (does : Performs mix env (works job) did) (slot : ℕ)
@@ -448,15 +448,15 @@ module _ (env : Env) (c : ℕ) (words_at : ℕ → List ℕ) (mix : ℕ → ℕ 
       calm-retiring (steps ++ did ∷ []) now rehash (slot_of did.old)
   calm-work (at.Closing (endings.Retiring root again)) steps did does own now still saw calm = tt
   calm-work (at.Closing (endings.LettingGo outcome)) steps did does own now still saw calm = λ again is.
-      turned-saw env c again steps did (subst (λ k. TurnsSection env.geometry k did) own does.planned) (calm again is)
+      turned-saw env c again steps did (subst (λ k. TurnsSection env.geometry k did) own (hard mix env refl does)) (calm again is)
   calm-work (at.Retiring root again) steps did does own now still saw calm = tt
   calm-work (at.KeepingSections keep again) steps did does own now still saw calm =
       calm-kept (steps ++ did ∷ []) now (keep_sections_after keep did.old).0 again (keep_sections_after keep did.old).1
       (keeping-saw env c again keep.slot keep.at steps did does.within.slot_in does.within.at_in
-      (does.planned ∙ ap (λ (h : Geometry). keep_sections_plan_at h keep.slot keep.at) does.within.geometry_same) saw.0)
+      ((hard mix env refl does) ∙ ap (λ (h : Geometry). keep_sections_plan_at h keep.slot keep.at) does.within.geometry_same) saw.0)
   calm-work (at.LettingGo outcome) steps did does own now still saw calm = λ again is.
       let moved : outcome ≡ outcomes.Moved again = moved-outcome outcome again is in
-      stored-saw env c again WorkLock 0 steps did tt (λ e. cc) does.planned (calm again moved)
+      stored-saw env c again WorkLock 0 steps did tt (λ e. cc) (hard mix env refl does) (calm again moved)
     where
       moved-outcome : (outcome : Outcome) (again : Bool) → reply_of outcome ≡ replies.Moved again → outcome ≡ outcomes.Moved again
       moved-outcome outcomes.Idle again is = absurd (cc)

@@ -25,7 +25,7 @@ use Rattle.rht_release.specs.declared.rebind.RebindAt.TheVariants as rebinds_at
 use Rattle.rht_release.specs.declared.rebind.RebindEnd.{RebindEnd}
 use Rattle.rht_release.specs.declared.rebind.RebindEnd.TheVariants as ends
 use Rattle.rht_words.specs.Machines.{GoesOrEnds}
-use Rattle.rht_core.proofs.Tracing.TracedJobs.{Performs}
+use Rattle.rht_core.proofs.Tracing.TracedJobs.{hard, Performs}
 use Rattle.rht_core.proofs.Reasons.NewNodesSeen.{SawNew, SawMade, new-saw}
 
 module _ (env : Env) where
@@ -93,7 +93,7 @@ module _ (env : Env) where
       → SawNextRebind (steps ++ did ∷ []) (rebind.after_at mix env port owner state did.old)
   rebind-saw mix port owner new (rebinds_at.Filling made) steps did does saw =
       rebind_made-saw made (new_node_after_at made.at did.old) (steps ++ did ∷ [])
-      (new-saw env made made.at steps did refl does.within.at_in does.planned saw)
+      (new-saw env made made.at steps did refl does.within.at_in (hard mix env refl does) saw)
   rebind-saw mix port owner new (rebinds_at.Seeking node seek) steps did does saw =
       rebind_sought-saw node (seek_after mix port seek did.old).0 (seek_after mix port seek did.old).1
       (steps ++ did ∷ [])

@@ -1,6 +1,7 @@
 -- In every run a resizing that retires a table then keeps the section words of all callers in that one's slot, and gives the work lock back.
 --
 -- It retires one in one state alone, behind which it keeps the words, and lets go of the work lock once it has kept them all.
+use Rattle.rht_ghost.proofs.Pieces.HeldSections.{of_its_own}
 use Rattle.std.proofs.Common.{◌≡◌, ℕ, ◌<◌, Bool, List, [], ◌∷◌, ◌++◌, map, append_assoc, inl, inr, refl, sym, ap, ◌∙◌, subst}
 use Rattle.std.specs.List.{Any}
 use Rattle.rht_words.specs.declared.env.Env.{Env}
@@ -22,7 +23,7 @@ use Rattle.rht_core.specs.Traces.{Did, performed_of}
 use Rattle.rht_core.specs.Seen.{words_before}
 use Rattle.rht_core.specs.Attached.{ChangesState, RetiresSlot, HasKeptSections, KeepsWhereRetired, KeepsAtRetiring}
 use Rattle.rht_ghost.proofs.Theory.Steps.{mem}
-use Rattle.rht_core.proofs.Tracing.TracedJobs.{Performs, StandsIn, LeadsOn, IsEndedSo, jobs_keep_own}
+use Rattle.rht_core.proofs.Tracing.TracedJobs.{hard_by, hard, Performs, StandsIn, LeadsOn, IsEndedSo, jobs_keep_own}
 use Rattle.rht_core.proofs.Histories.Behind.{Any-push_cases, Any-none}
 use Rattle.rht_core.proofs.Reasons.CausesInRuns.{JobSaw, EndsSeen, job-leads, first_job-saw}
 use Rattle.rht_core.proofs.Reasons.ChangesSeen.{fits_now, does_now}
@@ -103,8 +104,8 @@ module _ (M : Type 0) (mix : ℕ → ℕ → ℕ → ℕ) (env : Env) (events : 
     retires_in : (slot : ℕ) → slot < 8 → RetiresSlot g slot did → (job : Job) (performs : Performs mix env job did)
         → performs.words ≡ words_at did.index → IsRetiring slot job
     retires_in slot low retires job performs now =
-        here (state_by_move env mix performs.caller (mem env mix performs.words) performs.ghost did (held_of job)
-        (held_next (job_after mix env job did.old)) slot
+        here (state_by_move env mix performs.caller (mem env mix performs.words) performs.ghost did (of_its_own performs.over (held_of job))
+        (of_its_own performs.over (held_next (job_after mix env job did.old))) slot
         (fits_now M mix env events c admitted steps did job performs now) changed performs.step.move performs.step.ready
         (does_now M mix env events c admitted steps did job performs))
       where
@@ -115,15 +116,15 @@ module _ (M : Type 0) (mix : ℕ → ℕ → ℕ → ℕ) (env : Env) (events : 
           other = λ same. retires.other (sym same ∙ ap (word_after did.old) retires.stores);
         }
 
-        here : StateHere env mix performs.caller (mem env mix performs.words) performs.ghost did (held_of job)
-            (held_next (job_after mix env job did.old)) slot → IsRetiring slot job
+        here : StateHere env mix performs.caller (mem env mix performs.words) performs.ghost did (of_its_own performs.over (held_of job))
+            (of_its_own performs.over (held_next (job_after mix env job did.old))) slot → IsRetiring slot job
         here (inl takes) = absurd (let both = sym retires.stores ∙ takes.takes.taking in cc)
         here (inr (inl gives)) = absurd (let both = sym retires.stores ∙ gives.gives in cc)
         here (inr (inr is)) =
             let one =
             retiring_is env mix performs.caller (mem env mix performs.words) performs.ghost did slot is.can is.stores job
             (retires_now env mix performs.caller (mem env mix performs.words) performs.ghost did slot is.can is.stores job
-            performs.planned is.moves performs.knows) in
+            (hard_by mix env performs _ tt is.stores) is.moves performs.knows) in
             record { root = one.0; again = one.1; is = one.2; same = one.3 }
 
     -- so it is of the operations with it, where one of them did so
@@ -149,7 +150,7 @@ module _ (M : Type 0) (mix : ℕ → ℕ → ℕ → ℕ) (env : Env) (events : 
       retires = subst (λ s. RetiresSlot g s so_far.at) (kept slot low has) so_far.retires;
       kept =
           subst (λ s. SectionsKept g s (map performed_of (so_far.since ++ did ∷ []))) (kept slot low has)
-          (keeps-end g keep performs.within steps did performs.planned so_far is);
+          (keeps-end g keep performs.within steps did (hard mix env refl performs) so_far is);
     }
 
     so_far-next : (job : Job) (performs : Performs mix env job did) → performs.words ≡ words_at did.index

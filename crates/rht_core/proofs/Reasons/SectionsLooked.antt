@@ -1,10 +1,11 @@
 -- In every run an operation on another caller's section word is a tidying's, or a resizing's where it asks of a retired table, or keeps section words
 -- at a retiring. By what the job may look at (`InsideInRuns`) it is made in one of these states alone, and by what was seen in such a state the call
 -- has done what the law says.
-use Rattle.std.proofs.Common.{◌≡◌, ◌≢◌, ℕ, ◌<◌, List, map, take, drop, sym, ap, ◌∙◌, subst, inl, inr, arith}
+use Rattle.std.proofs.Common.{◌≡◌, ◌≢◌, ℕ, ◌<◌, Bool, false, List, map, take, drop, sym, ap, ◌∙◌, subst, inl, inr, arith}
 use Rattle.std.proofs.lemmas.List.{take-append-drop}
 use Rattle.rht_words.specs.declared.env.Env.{Env}
 use Rattle.rht_words.specs.declared.geometry.Geometry.{Geometry}
+use Rattle.rht_words.specs.declared.op.Op.{Op}
 use Rattle.rht_words.specs.declared.op.Op.TheVariants.{Load}
 use Rattle.rht_words.specs.Operations.{op_place}
 use Rattle.rht_words.specs.Places.{Section, place_of}
@@ -16,6 +17,7 @@ use Rattle.rht_grace.specs.declared.tidy.TidyAt.TheVariants as tidy_at
 use Rattle.rht_reclaim.specs.KeepSections.{keep_sections_plan_at}
 use Rattle.rht_reclaim.specs.ReturnTables.{return_tables_plan_at}
 use Rattle.rht_move.specs.declared.work.WorkAt.TheVariants as working
+use Rattle.rht_callers.specs.Locals.{soft}
 use Rattle.rht_core.specs.Awaited.{Awaited, LooksCause}
 use Rattle.rht_core.specs.Jobs.{Job, works, tidies, call_of, job_of, job_plan}
 use Rattle.rht_core.specs.Runs.{World, local_of, run_of, IsAdmitted, IsAdmittedEvent}
@@ -23,6 +25,7 @@ use Rattle.rht_core.specs.Seen.{words_before}
 use Rattle.rht_core.specs.Traces.{Did, performed_of, traced_of}
 use Rattle.rht_core.proofs.Events.InvariantRuns.{has_inv}
 use Rattle.rht_core.proofs.Events.Invariants.{step_of}
+use Rattle.rht_core.proofs.Machines.HeldSteps.{MayHold, none_over, no_work, soft-none}
 use Rattle.rht_core.proofs.Reasons.CausesInRuns.{JobSaw, EndsSeen, job-leads, first_job-saw}
 use Rattle.rht_core.proofs.Reasons.ReturnsSoFar.{SlotSoFar}
 use Rattle.rht_core.proofs.Reasons.WordsKept.{KeptSoFar}
@@ -50,11 +53,16 @@ module _ (mix : ℕ → ℕ → ℕ → ℕ) (env : Env) (words_at : ℕ → Lis
   tidy-loads batch (tidy_at.Giving index) is =
       let there = sym (ap op_place is) ∙ on in absurd (omega (arith, there, low))
 
-  looks : (job : Job) → near_of c job d → did.op ≡ job_plan env c job → JobSaw env c words_at mix job steps → Looks job
-  looks (tidies batch state) near is saw = (tidy-loads batch state is, tt)
-  looks (works (working.KeepingSections keep again)) near is saw =
+  -- out of a hold it is what the machine plans
+  hard : (over : Bool) (op : Op) → over ≡ false → did.op ≡ soft over op → did.op ≡ op
+  hard over op none is = is ∙ ap (λ o. soft o op) none ∙ soft-none op
+
+  looks : (over : Bool) (job : Job) → MayHold over job → near_of c job d → did.op ≡ soft over (job_plan env c job)
+      → JobSaw env c words_at mix job steps → Looks job
+  looks over (tidies batch state) may near is saw = (tidy-loads batch state (hard over (plan_at g batch state) (none_over over may) is), tt)
+  looks over (works (working.KeepingSections keep again)) may near is saw =
       let kept = subst (λ state. KeptSoFar g keep.slot state (map performed_of saw.1.since)) near saw.1.kept in (
-        loads-this d (is ∙ ap (keep_sections_plan_at keep.geometry keep.slot) near),
+        loads-this d (hard over (keep_sections_plan_at keep.geometry keep.slot keep.at) (no_work over may) is ∙ ap (keep_sections_plan_at keep.geometry keep.slot) near),
         inr (record {
           slot = keep.slot;
           sooner = saw.1.sooner;
@@ -67,9 +75,9 @@ module _ (mix : ℕ → ℕ → ℕ → ℕ) (env : Env) (words_at : ℕ → Lis
           kept = kept.2;
         }),
       )
-  looks (works (working.Returning returns)) (slot, kept, at) is saw =
+  looks over (works (working.Returning returns)) may (slot, kept, at) is saw =
       let so_far = subst (λ state. SlotSoFar g state steps) at saw.of_slot in (
-        loads-this d (is ∙ ap (return_tables_plan_at returns.geometry) at),
+        loads-this d (hard over (return_tables_plan_at returns.geometry returns.at) (no_work over may) is ∙ ap (return_tables_plan_at returns.geometry) at),
         inl (record {
           lock = saw.lock;
           behind = saw.sooner;
@@ -86,8 +94,8 @@ module _ (mix : ℕ → ℕ → ℕ → ℕ) (env : Env) (words_at : ℕ → Lis
           asked = so_far.so.part;
         }),
       )
-  looks (works state) near is saw = absurd (other near)
-  looks job near is saw = absurd (other near)
+  looks over (works state) may near is saw = absurd (other near)
+  looks over job may near is saw = absurd (other near)
 
 pub awaited : (M : Type 0) (mix : ℕ → ℕ → ℕ → ℕ) → Awaited M mix
 awaited M mix env events c d did admitted low other recorded on =
@@ -98,6 +106,7 @@ awaited M mix env events c d did admitted low other recorded on =
     let words_at = words_before M mix env before in
     let near = near_at M mix env events c d did admitted recorded low on in
     let has = has_inv env mix M before first in
+    let over = (local_of (run_of {M = M} mix env before).core c).held in
     let of = step_of env mix M (run_of mix env before).core has.ghost c did.op has.all has.inv recorded.plan in
     let same : of.job ≡ near.job = (let both = sym of.is ∙ near.does in cc) in
     let keeping =
@@ -108,5 +117,6 @@ awaited M mix env events c d did admitted low other recorded on =
     subst (λ job. IsAtJob M mix env (JobSaw env c words_at mix) (EndsSeen M mix env before c) job (r.world.books c) (r.traces c).steps) does
     keeping.now in
     let so =
-    looks mix env words_at c d low other (r.traces c).steps did on near.job near.near (of.plan ∙ ap (job_plan env c) same) work.now in
+    looks mix env words_at c d low other (r.traces c).steps did on over near.job (subst (MayHold over) same of.may) near.near
+    (of.plan ∙ ap (λ job. soft over (job_plan env c job)) same) work.now in
     record { loads = so.0; call = call_of near.job; is = work.call; cause = so.1 }

@@ -40,7 +40,7 @@ use Rattle.rht_ghost.proofs.Theory.Knowns.{OnWay}
 use Rattle.rht_ghost.proofs.Pieces.Locates.{known_locate}
 use Rattle.rht_core.proofs.Reasons.PagesMissed.{SawGrowing, SawGrown, SeesMissing, begins-missing, missing-early, misses-page}
 use Rattle.rht_core.proofs.Tracing.UnturnedSteps.{UnturnedTo}
-use Rattle.rht_core.proofs.Tracing.TracedJobs.{Performs, StandsIn}
+use Rattle.rht_core.proofs.Tracing.TracedJobs.{hard, Performs, StandsIn}
 use Rattle.rht_core.proofs.Reasons.QuietSteps.{unturned-behind}
 use Rattle.rht_core.proofs.Events.BucketsThere.{BucketsStay}
 use Rattle.rht_core.proofs.Reasons.UnboundSeen.{SeesNoFuture, unbound-early}
@@ -206,12 +206,12 @@ module _ (env : Env) (words_at : ℕ → List ℕ) (mix : ℕ → ℕ → ℕ �
       (same_table env.geometry mix port locate locate.at did.old)
       (locate-walked env.geometry SeesNone mix port locate locate.at steps did within.at_in
       within.table_in
-      does.planned
+      (hard mix env refl does)
       (early-told does.words does.ghost does.whole locate did now.now stay within.table_in within.geometry_same does.found
-      locate.at does.planned means)
+      locate.at (hard mix env refl does) means)
       saw)
       (located-missed few does.words does.ghost does.whole locate steps did now.now calm does.found locate.at within.at_in
-      does.planned means saw)
+      (hard mix env refl does) means saw)
 
   -- ---- a page is entered
 

@@ -52,7 +52,7 @@ use Rattle.rht_ghost.proofs.Theory.Steps.{mem}
 use Rattle.rht_ghost.proofs.Theory.Knowns.{Onward, Rooted}
 use Rattle.rht_ghost.proofs.Theory.Knowledge.{WorkMeans}
 use Rattle.rht_ghost.proofs.Pieces.WorkLoads.{has_future, future_seen, nested_size}
-use Rattle.rht_core.proofs.Tracing.TracedJobs.{Performs}
+use Rattle.rht_core.proofs.Tracing.TracedJobs.{hard, Performs}
 use Rattle.rht_core.proofs.Meaning.TablesInForce.{current_slot, next_apart}
 use Rattle.rht_core.proofs.Reasons.AttachedTables.{lock-none, unmake-none}
 use Rattle.rht_core.proofs.Reasons.MakesSeen.{runs_taken-stay}
@@ -75,7 +75,7 @@ module _ (env : Env) (mix : ℕ → ℕ → ℕ → ℕ) where
       → WorkMeans env mix does.caller (mem env mix does.words) does.ghost (Rooted root Onward) → ⊥
   found_none root due did does none knows =
       let found : did.old ≡ mem env mix does.words (Slot root FutureWord) =
-      does.found ∙ ap (old_of does.words) does.planned in
+      does.found ∙ ap (old_of does.words) (hard mix env refl does) in
       has_future env mix does.caller (mem env mix does.words) does.ghost does.whole root knows
       (sym (ap slot_of found) ∙ none)
 
@@ -87,7 +87,7 @@ module _ (env : Env) (mix : ℕ → ℕ → ℕ → ℕ) where
   last_small root h (seeks.Shape slot) did does =
       let found : did.old ≡ mem env mix does.words (Slot slot ShapeWord) =
       does.found ∙ ap (old_of does.words)
-      (does.planned ∙ ap (λ (g : Geometry). last_table_plan_at g (seeks.Shape slot))
+      ((hard mix env refl does) ∙ ap (λ (g : Geometry). last_table_plan_at g (seeks.Shape slot))
       does.within.seek_in.geometry_same) in
       subst (λ shape. is_nested shape ≡ true → size_of (unpacked shape) ≤ 2 ^ 17) (sym found)
       (nested_size env mix does.caller (mem env mix does.words) does.ghost does.whole slot
@@ -98,10 +98,10 @@ module _ (env : Env) (mix : ℕ → ℕ → ℕ → ℕ) where
       → RetiresSlot env.geometry root did
   retires-new root again did does =
       let found : did.old ≡ mem env mix does.words (Slot root StateWord) =
-      does.found ∙ ap (old_of does.words) does.planned in
+      does.found ∙ ap (old_of does.words) (hard mix env refl does) in
       let one : did.old ≡ 1 =
       found ∙ does.whole.slots.states root does.within ∙ ap state_word does.knows.knowing.means.work.more.live in
-      record { stores = does.planned; other = λ two. absurd (omega (arith, one, two)) }
+      record { stores = hard mix env refl does; other = λ two. absurd (omega (arith, one, two)) }
 
   -- nor is the next one the current one itself
   other_future : (root : ℕ) (due : Due) (did : Did) → Performs mix env (works (at.RootFuture root due)) did
@@ -110,7 +110,7 @@ module _ (env : Env) (mix : ℕ → ℕ → ℕ → ℕ) where
   other_future root due did does future finds same =
       let G = does.ghost in
       let found : did.old ≡ mem env mix does.words (Slot root FutureWord) =
-      does.found ∙ ap (old_of does.words) does.planned in
+      does.found ∙ ap (old_of does.words) (hard mix env refl does) in
       let follows = (future_seen env mix does.caller (mem env mix does.words) G does.whole root future _
       does.knows.knowing.means.work (sym (ap slot_of found) ∙ finds)).more in
       let tables = does.whole.tables in
@@ -166,12 +166,12 @@ module _ (env : Env) (c : ℕ) (words_at : ℕ → List ℕ) where
       → let next = last_table_after seek did.old in
       Sees (entry_table_seen emptying next.0 next.1) (steps ++ did ∷ [])
   table-saw mix emptying h (seeks.Future slot) steps did does here saw =
-      let is = does.planned ∙ ap (λ (g : Geometry). last_table_plan_at g (seeks.Future slot))
+      let is = (hard mix env refl does) ∙ ap (λ (g : Geometry). last_table_plan_at g (seeks.Future slot))
       does.within.seek_in.geometry_same in
       sought-saw env c emptying.rehash slot (slot_of did.old) steps did
       (reads env (Slot slot FutureWord) did (does.within.seek_in.at_in, tt) is, refl) saw
   table-saw mix emptying h (seeks.Shape slot) steps did does here saw =
-      let is = does.planned ∙ ap (λ (g : Geometry). last_table_plan_at g (seeks.Shape slot))
+      let is = (hard mix env refl does) ∙ ap (λ (g : Geometry). last_table_plan_at g (seeks.Shape slot))
       does.within.seek_in.geometry_same in
       found-saw env c words_at emptying slot steps did
       (reads env (Slot slot ShapeWord) did (does.within.seek_in.at_in, tt) is)
@@ -302,103 +302,103 @@ module _ (env : Env) (c : ℕ) (words_at : ℕ → List ℕ) where
   pub work-saw : (mix : ℕ → ℕ → ℕ → ℕ) (state : WorkAt) (steps : List Did) (did : Did)
       → (does : Performs mix env (works state) did) → does.caller ≡ c → does.words ≡ words_at did.index → Sees state steps
       → SawNextWork env c words_at (steps ++ did ∷ []) (after_at mix env state did.old)
-  work-saw mix at.WorkLock steps did does own here saw = lock-saw env c words_at steps did does.planned saw
+  work-saw mix at.WorkLock steps did does own here saw = lock-saw env c words_at steps did (hard mix env refl does) saw
   work-saw mix (at.Returning returns) steps did does own here saw =
-      returned-saw env c words_at returns steps did does.within does.planned saw
+      returned-saw env c words_at returns steps did does.within (hard mix env refl does) saw
   work-saw mix at.Opening steps did does own here saw =
-      opening-saw env c words_at steps did (subst (λ k. TurnsSection env.geometry k did) own does.planned) saw
-  work-saw mix at.CurrentTable steps did does own here saw = current-saw env c words_at steps did does.planned saw
+      opening-saw env c words_at steps did (subst (λ k. TurnsSection env.geometry k did) own (hard mix env refl does)) saw
+  work-saw mix at.CurrentTable steps did does own here saw = current-saw env c words_at steps did (hard mix env refl does) saw
   work-saw mix (at.LastTable root seek) steps did does own here saw =
       last-saw env c words_at root seek.geometry seek.at steps did does.within.seek_in.at_in
       (last_small env mix root seek.geometry seek.at did does)
-      (does.planned ∙ ap (λ (h : Geometry). last_table_plan_at h seek.at)
+      ((hard mix env refl does) ∙ ap (λ (h : Geometry). last_table_plan_at h seek.at)
       does.within.seek_in.geometry_same) saw
   work-saw mix (at.Count root last) steps did does own here saw =
       begun-saw env c words_at root last (choice_of env did.old last.shape (root == last.table)) steps did
-      does.planned refl saw
+      (hard mix env refl does) refl saw
   work-saw mix (at.Making wanted make) steps did does own here saw =
-      made-saw env c words_at wanted make steps did does.within does.planned saw
+      made-saw env c words_at wanted make steps did does.within (hard mix env refl does) saw
   work-saw mix (at.Attaching root last slot shape) steps did does own here saw =
       attached-saw env c words_at root last slot shape steps did does.within.last_in does.within.made_in.slot_in
-      does.planned saw
+      (hard mix env refl does) saw
   work-saw mix (at.Unmaking root unmake) steps did does own here saw =
       unmade-saw env c words_at root (unmake_after unmake did.old).0 (unmake_after unmake did.old).1
       (steps ++ did ∷ [])
       (HasDue-push env c root steps did
-      (plain env c _ did does.planned (unmake-none env.geometry unmake.geometry unmake.slot unmake.at)
+      (plain env c _ did (hard mix env refl does) (unmake-none env.geometry unmake.geometry unmake.slot unmake.at)
       (unmake-no_add unmake.geometry unmake.slot unmake.at)) saw.0)
-      (unmake-own env.geometry unmake.geometry unmake.slot unmake.at steps did does.planned saw.1)
+      (unmake-own env.geometry unmake.geometry unmake.slot unmake.at steps did (hard mix env refl does) saw.1)
   work-saw mix (at.RootFuture root due) steps did does own here saw =
-      future-saw env c words_at root due (slot_of did.old) steps did (subst (λ k. k < 16) own does.few) does.within does.planned refl
+      future-saw env c words_at root due (slot_of did.old) steps did (subst (λ k. k < 16) own does.few) does.within (hard mix env refl does) refl
       (nothing-found env mix root due did does)
       (other_future env mix root due did does) saw
   work-saw mix (at.RootShape root future again) steps did does own here saw =
       let rehash : Rehash = record { root = root; future = future; shape = did.old; again = again } in
       root-saw env c words_at rehash 0 (steps ++ did ∷ [])
-      (goes env c rehash _ steps did does.planned (λ table old new l e. cc) (λ place value adds. cc) saw)
+      (goes env c rehash _ steps did (hard mix env refl does) (λ table old new l e. cc) (λ place value adds. cc) saw)
   work-saw mix (at.Entry rehash number place) steps did does own here saw =
       passed-saw env c words_at rehash number (place_after place did.old).0 (place_after place did.old).1
       (steps ++ did ∷ [])
-      (goes env c rehash _ steps did does.planned (λ table old new l e. cc) (λ place value adds. cc) saw)
+      (goes env c rehash _ steps did (hard mix env refl does) (λ table old new l e. cc) (λ place value adds. cc) saw)
   work-saw mix (at.Locking rehash number lock) steps did does own here saw =
       locked-saw env c words_at rehash number (lock_after lock did.old).0 (lock_after lock did.old).1
       (steps ++ did ∷ [])
-      (goes env c rehash _ steps did does.planned
+      (goes env c rehash _ steps did (hard mix env refl does)
       (lock-none env.geometry lock.place lock.at does.within.lock_in.place_in) (lock-no_add lock.place lock.at) saw)
   work-saw mix (at.EntryTable emptying seek) steps did does own here saw =
       table-saw mix emptying seek.geometry seek.at steps did does here saw
   work-saw mix (at.Seed emptying last) steps did does own here saw =
-      goes env c emptying.rehash _ steps did does.planned (λ table old new l e. cc) (λ place value adds. cc) saw
+      goes env c emptying.rehash _ steps did (hard mix env refl does) (λ table old new l e. cc) (λ place value adds. cc) saw
   work-saw mix (at.BucketWord emptying target) steps did does own here saw =
       entry-saw env c words_at (with_word emptying (unlocked did.old)) target
       (node_of env.geometry.nodes (head_of emptying.bucket.place (unlocked did.old))) (steps ++ did ∷ [])
-      (goes env c emptying.rehash _ steps did does.planned (λ table old new l e. cc) (λ place value adds. cc) saw)
+      (goes env c emptying.rehash _ steps did (hard mix env refl does) (λ table old new l e. cc) (λ place value adds. cc) saw)
   work-saw mix (at.Walking emptying target walk) steps did does own here saw =
       walked-saw env c words_at emptying target (last_entry_after walk did.old).0
       (last_entry_after walk did.old).1 (steps ++ did ∷ [])
-      (goes env c emptying.rehash _ steps did does.planned (λ table old new l e. cc) (λ place value adds. cc) saw)
+      (goes env c emptying.rehash _ steps did (hard mix env refl does) (λ table old new l e. cc) (λ place value adds. cc) saw)
   work-saw mix (at.Key emptying target entry) steps did does own here saw =
-      goes env c emptying.rehash _ steps did does.planned (λ table old new l e. cc) (λ place value adds. cc) saw
+      goes env c emptying.rehash _ steps did (hard mix env refl does) (λ table old new l e. cc) (λ place value adds. cc) saw
   work-saw mix (at.LockingSecond emptying entry table lock) steps did does own here saw =
       second_locked-saw env c words_at emptying entry table (lock_after lock did.old).0
       (lock_after lock did.old).1 (steps ++ did ∷ [])
-      (goes env c emptying.rehash _ steps did does.planned
+      (goes env c emptying.rehash _ steps did (hard mix env refl does)
       (lock-none env.geometry lock.place lock.at does.within.lock_in.place_in) (lock-no_add lock.place lock.at) saw)
   work-saw mix (at.EntryLink emptying entry second) steps did does own here saw =
-      goes env c emptying.rehash _ steps did does.planned (λ table old new l e. cc) (λ place value adds. cc) saw
+      goes env c emptying.rehash _ steps did (hard mix env refl does) (λ table old new l e. cc) (λ place value adds. cc) saw
   work-saw mix (at.Linking emptying entry second) steps did does own here saw =
-      goes env c emptying.rehash _ steps did does.planned (λ table old new l e. cc) (λ place value adds. cc) saw
+      goes env c emptying.rehash _ steps did (hard mix env refl does) (λ table old new l e. cc) (λ place value adds. cc) saw
   work-saw mix (at.CuttingOff emptying entry) steps did does own here saw =
       cut-saw env c words_at emptying entry.before (steps ++ did ∷ [])
-      (goes env c emptying.rehash _ steps did does.planned
+      (goes env c emptying.rehash _ steps did (hard mix env refl does)
       (cut-none env emptying.bucket.place entry.before) (cut-no_add env emptying.bucket.place entry.before) saw)
   work-saw mix (at.Unlocking rehash number unlock stop) steps did does own here saw =
       unlocked-saw env c words_at rehash number stop steps did
-      (unlocking-stores env c unlock did does.within.unlock_in does.planned)
-      (plain env c _ did does.planned (λ table old new l e. cc) (λ place value adds. cc)) saw
+      (unlocking-stores env c unlock did does.within.unlock_in (hard mix env refl does))
+      (plain env c _ did (hard mix env refl does) (λ table old new l e. cc) (λ place value adds. cc)) saw
   work-saw mix (at.Publishing rehash) steps did does own here saw = (
-    publish-saw env c rehash steps did does.within.tables_in.future_in does.planned saw,
+    publish-saw env c rehash steps did does.within.tables_in.future_in (hard mix env refl does) saw,
     record {
       before = steps;
       at = did;
       behind = [];
       split = refl;
       next = rehash.future;
-      stores = record { table_in = does.within.tables_in.future_in; stores = does.planned };
-      from = ap table_of (does.found ∙ ap (old_of does.words) does.planned)
+      stores = record { table_in = does.within.tables_in.future_in; stores = (hard mix env refl does) };
+      from = ap table_of (does.found ∙ ap (old_of does.words) (hard mix env refl does))
           ∙ current_slot env mix does.words does.ghost does.whole ∙ does.knows.knowing.means.work.more.followed.root_is;
       other = next_apart env mix does.words does.ghost does.whole rehash.root rehash.future does.knows.knowing.means.work.more.followed;
     },
   )
   work-saw mix (at.NewFuture rehash) steps did does own here saw =
       retiring-saw env c words_at rehash (slot_of did.old) steps did does.within.tables_in.future_in
-      does.planned refl saw
+      (hard mix env refl does) refl saw
   work-saw mix (at.Retiring root again) steps did does own here saw = (
-    stored-saw env c again (Slot root StateWord) 2 steps did (does.within, tt) (λ e. cc) does.planned saw.0,
+    stored-saw env c again (Slot root StateWord) 2 steps did (does.within, tt) (λ e. cc) (hard mix env refl does) saw.0,
     keeps-begin env.geometry root steps did (retires-new env mix root again did does),
   )
   work-saw mix (at.KeepingSections keep again) steps did does own here saw =
-      kept-saw keep again steps did does.within does.planned saw
+      kept-saw keep again steps did does.within (hard mix env refl does) saw
   work-saw mix (at.Closing ending) steps did does own here saw =
-      closing-saw ending steps did (subst (λ k. TurnsSection env.geometry k did) own does.planned) (subst (λ k. k < 16) own does.few) saw
-  work-saw mix (at.LettingGo outcome) steps did does own here saw = let_go-saw outcome steps did does.planned saw
+      closing-saw ending steps did (subst (λ k. TurnsSection env.geometry k did) own (hard mix env refl does)) (subst (λ k. k < 16) own does.few) saw
+  work-saw mix (at.LettingGo outcome) steps did does own here saw = let_go-saw outcome steps did (hard mix env refl does) saw

@@ -1,5 +1,11 @@
 -- In every run an operation of a call is on what is its own, or on what its caller could reach in its section, and leads nowhere else;
 -- or it takes down a retired table that nobody could reach.
+use Rattle.std.specs.Prelude.{false}
+use Rattle.rht_model.specs.declared.history.Call.TheVariants.{Work}
+use Rattle.rht_core.proofs.Events.StepsOfCallers.{MayHoldAs, hard-plan}
+use Rattle.rht_callers.specs.Locals.{soft, may_hold}
+use Rattle.rht_ghost.proofs.Pieces.HeldSections.{is_in}
+use Rattle.rht_core.proofs.Machines.HeldSteps.{no_work, soft-none}
 use Rattle.std.proofs.Common.{◌≡◌, ℕ, ◌+◌, ◌/◌, ◌<◌, ◌⊎◌, true, List, take, drop, slice_index, Option, Some, refl, sym, ◌∙◌, ap, subst, inl, inr, arith}
 use Rattle.std.proofs.lemmas.Bool.{cases_lt}
 use Rattle.std.proofs.lemmas.List.{take-append-drop}
@@ -45,9 +51,10 @@ use Rattle.rht_core.proofs.Finding.LookupsInRuns.{has_looks}
 use Rattle.rht_core.proofs.Machines.JobSteps.{JobIn, JobKnows}
 use Rattle.rht_core.proofs.Tracing.TracedRuns.{world-traced_of}
 use Rattle.rht_ghost.proofs.Theory.Ghosts.{Ghost, Free, NodeHeld, SlotHeld, slot_holder, state_word, table_of_slot, IsSince}
-use Rattle.rht_ghost.proofs.Theory.Knowledge.{IsOverAt, outside-none}
+use Rattle.rht_core.proofs.Events.SectionMoves.{odd_by, in_section}
+use Rattle.rht_ghost.proofs.Theory.Knowledge.{IsOverAt}
 use Rattle.rht_ghost.proofs.Theory.Steps.{mem}
-use Rattle.rht_ghost.proofs.Theory.Wholes.{Whole, IsTurned}
+use Rattle.rht_ghost.proofs.Theory.Wholes.{Whole}
 use Rattle.rht_core.proofs.Returning.MetInRuns.{Met, has_met, comes_next, open_now, outside_now, outside_next}
 use Rattle.rht_core.proofs.Returning.Operating.{PageThere, Lies, Allowed, nothing_own, May}
 use Rattle.rht_core.proofs.Returning.OperatingBinds.{bind_lies}
@@ -254,8 +261,10 @@ module _ (env : Env) (mix : ℕ → ℕ → ℕ → ℕ) (L : Type 0) where
           (knows : WorkKnows env mix c (working.Returning returns) (mem env mix core.words) G) where
         -- so no open section comes to a table that it takes down
         outside : IsInNoSection g core.words c
-        outside = subst (λ from. IsTurned env mix from (mem env mix core.words (Section c)))
-            (outside-none (G.from c) G.current knows.only.reads) (whole.sections.words c low)
+        outside =
+            let over = (local_of core c).held in
+            let may : may_hold over Work ≡ true = subst (MayHoldAs over) does (met.placed.inv.holds c) in
+            met.placed.inv.right c low ∙ ap (λ job. odd_by (is_in over (in_section job))) does ∙ ap (λ o. odd_by (is_in o false)) (no_work over may)
 
         behind : (slot : ℕ) (over : IsOverAt env mix G slot) → AllComeBehind G over.table
         behind slot over d first from = elim (cases_lt over.table first) [
@@ -361,7 +370,7 @@ asked-at L mix env events c did admitted recorded a there same =
     let placed = met.placed in
     let of = step_of env mix L core placed.ghost c did.op placed.all placed.inv recorded.plan in
     let tied = subst (tied_with env mix placed.ghost) of.is (met.each c of.low).tied in
-    let is = job_asked env mix L before first met c of.few did of.job of.is of.plan of.within of.knows tied in
+    let is = job_asked env mix L before first met c of.few did of.job of.is (hard-plan env mix L of (placed.inv.rests c)) of.within of.knows tied in
     let on : op_place did.op ≡ place_of env.geometry is.address = is.on in
     subst (Asked env mix L core c did) (place_of-apart env.geometry is.address a is.there there (sym on ∙ same)) is.asked
 

@@ -10,12 +10,14 @@ use Rattle.std.proofs.lemmas.Bool.{cases_eq, cond_both, eqb-true, eqb-false, eq-
 use Rattle.std.proofs.lemmas.List.{get_or-set_same, get_or-set_other}
 use Rattle.rht_words.specs.declared.op.Op.{Op}
 use Rattle.rht_words.specs.declared.env.Env.{Env}
+use Rattle.rht_ghost.proofs.Pieces.HeldSections.{is_in}
+use Rattle.rht_core.proofs.Machines.HeldSteps.{is_in-true, not_in, soft-old}
 use Rattle.rht_words.specs.Operations.{old_of}
 use Rattle.rht_words.specs.Places.{Section, word_at}
 use Rattle.rht_words.specs.Standing.{Standing, stands_nowhere}
 use Rattle.rht_words.specs.Members.{In}
 use Rattle.rht_words.proofs.Members.{AllByRecursion-In}
-use Rattle.rht_ghost.proofs.Theory.Wholes.{AreFrom, one_table}
+use Rattle.rht_ghost.proofs.Theory.Wholes.{AreFrom, IsTurned, one_table}
 use Rattle.rht_words.proofs.EachElement.{AllByRecursion-weaker}
 use Rattle.rht_model.specs.declared.history.Call.{Call}
 use Rattle.rht_callers.specs.declared.local.Local.{Local}
@@ -23,7 +25,7 @@ use Rattle.rht_callers.specs.declared.local.Doing.{Doing}
 use Rattle.rht_callers.specs.Locals.{fresh, begin_with, local_after}
 use Rattle.rht_core.specs.declared.event.Event.{Event}
 use Rattle.rht_core.specs.declared.event.Event.TheVariants.{Enroll, Begin, Step}
-use Rattle.rht_core.specs.Jobs.{Job, job_of, job_after, told, held_of, IsFirstJob}
+use Rattle.rht_core.specs.Jobs.{Job, job_of, job_plan, job_after, told, held_of, IsFirstJob}
 use Rattle.rht_core.specs.Reach.{IsReading, ComesTo}
 use Rattle.rht_core.specs.Runs.{Core, core_step, with_step, with_machine, local_of, beginning_in, planned_in}
 use Rattle.rht_core.specs.Sections.{IsInNoSection}
@@ -38,7 +40,7 @@ use Rattle.rht_core.proofs.Events.Worlds.{beginning-some, planned-some}
 use Rattle.rht_core.proofs.Finding.PlacesInRuns.{Placed, EventMakes}
 use Rattle.rht_ghost.proofs.Theory.Ghosts.{Ghost, is_first, is_listed}
 use Rattle.rht_ghost.proofs.Theory.Passed.{GrowsFrom, at-from}
-use Rattle.rht_ghost.proofs.Theory.Knowledge.{ReadsFrom, outside-none}
+use Rattle.rht_core.proofs.Events.SectionMoves.{none_even}
 use Rattle.rht_ghost.proofs.Theory.Reliance.{TablesStay}
 use Rattle.rht_ghost.proofs.Theory.Frames.{GoesBack}
 use Rattle.rht_ghost.proofs.Theory.Steps.{mem, ghost_after, SectionTurns, section_turns}
@@ -159,12 +161,13 @@ module _ (env : Env) (mix : ℕ → ℕ → ℕ → ℕ) (L : Type 0) where
     odd_yes false is = absurd (cc)
 
     closed_now : (c : ℕ) → c < 16 → IsInNoSection env.geometry core.words c → in_section (job_of (local_of core c).doing) ≡ false
-    closed_now c low out = odd_no _ (sym (parity c low) ∙ out)
+    closed_now c low out = not_in (local_of core c).held _ (odd_no _ (sym (parity c low) ∙ out))
 
     pub opens_now : (c : ℕ) → c < 16 → (job : Job) → job_of (local_of core c).doing ≡ Some job → (held_of job).section ≡ true
         → IsReading env.geometry core.words c
     opens_now c low job is inside =
-        parity c low ∙ ap (λ j. odd_by (in_section j)) is ∙ ap odd_by inside
+        let over = (local_of core c).held in
+        parity c low ∙ ap (λ j. odd_by (is_in over (in_section j))) is ∙ ap (λ s. odd_by (is_in over s)) inside ∙ ap odd_by (is_in-true over)
 
     pub stands_outside : (c : ℕ) → c < 16 → IsInNoSection env.geometry core.words c → standing core c ≡ stands_nowhere
     stands_outside c low out = go (job_of (local_of core c).doing) (closed_now c low out)
@@ -210,7 +213,8 @@ module _ (env : Env) (mix : ℕ → ℕ → ℕ → ℕ) (L : Type 0) where
           record {
             ties = λ tied.
                 subst (tied_with env mix G) (sym (next_job core G all inv c op plan))
-                (job_ties env mix core.words G inv.whole c of.job of.within of.knows (old_of core.words op) (ap (old_of core.words) of.plan)
+                (job_ties env mix core.words G inv.whole c of.job of.within of.knows (old_of core.words op)
+                (ap (old_of core.words) of.plan ∙ soft-old (local_of core c).held (job_plan env c of.job) core.words)
                 (subst (tied_with env mix G) of.is tied));
             inside = λ reads. inr (inr (comes c op plan));
             outside = stays_outside G all inv c op plan;
@@ -293,20 +297,16 @@ module _ (env : Env) (mix : ℕ → ℕ → ℕ → ℕ) (L : Type 0) where
 
     -- by its section's word behind the event: from which table on it reads then
     module _ (parity' : AreRight env mix L core') (low : c < 16) where
-      reads_then : ReadsFrom (in_section (job_of (local_of core' c).doing)) (G'.from c) G'.current
-      reads_then =
-          subst (λ (K : Ghost). ReadsFrom (in_section (job_of (local_of core' c).doing)) (K.from c) K.current) makes.same
-          (knows-reads env mix c (job_of (local_of core' c).doing) (mem env mix core'.words) makes.ghost (makes.inv.each c))
+      turned_then : IsTurned env mix (G'.from c) (section_of core' c)
+      turned_then =
+          subst (λ (K : Ghost). IsTurned env mix (K.from c) (section_of core' c)) makes.same (makes.inv.whole.sections.words c low)
 
       not_closed : section_of core' c % 2 ≡ 1 → G'.from c ≢ None
       not_closed odd closed =
-          subst (λ f. ReadsFrom true f G'.current) closed
-          (subst (λ inside. ReadsFrom inside (G'.from c) G'.current) (odd_yes core' parity' _ (sym (parity' c low) ∙ odd)) reads_then)
+          let even = subst (λ f. IsTurned env mix f (section_of core' c)) closed turned_then in omega (arith, even, odd)
 
       shut_then : section_of core' c % 2 ≡ 0 → G'.from c ≡ None
-      shut_then is =
-          outside-none (G'.from c) G'.current
-          (subst (λ inside. ReadsFrom inside (G'.from c) G'.current) (odd_no core' parity' _ (sym (parity' c low) ∙ is)) reads_then)
+      shut_then is = none_even env mix (G'.from c) (section_of core' c) turned_then is
 
       turned : SectionTurns env mix c G G'
       turned = section_turns env mix makes.caller c makes.move (mem env mix core.words) G makes.ready

@@ -1,5 +1,6 @@
 -- An event leaves each section word as it is, or turns whether it is odd. It leaves it unless it is an operation of the section's own caller
 -- that adds 1 to it.
+use Rattle.rht_core.specs.Runs.{local_of}
 use Rattle.std.proofs.Common.{◌≡◌, ◌≢◌, ◌⊎◌, ℕ, ◌+◌, ◌%◌, ◌<◌, List, length, Option, Some, None, refl, sym, ◌∙◌, ap, subst, inl, inr, arith}
 use Rattle.std.specs.Prelude.{slice_index}
 use Rattle.std.specs.Int.{bit_at}
@@ -7,6 +8,7 @@ use Rattle.std.specs.List.{AllByRecursion}
 use Rattle.std.proofs.lemmas.Bool.{cases_eq}
 use Rattle.std.proofs.lemmas.Nat.Bits.{same_from_bits_below}
 use Rattle.rht_words.specs.declared.env.Env.{Env}
+use Rattle.rht_ghost.proofs.Pieces.HeldSections.{of_its_own}
 use Rattle.rht_words.specs.declared.op.Op.{Op}
 use Rattle.rht_words.specs.declared.op.Op.TheVariants.{Add}
 use Rattle.rht_words.specs.Operations.{op_place, old_of, word_after, applied}
@@ -89,8 +91,8 @@ module _ (env : Env) (mix : ℕ → ℕ → ℕ → ℕ) (L : Type 0) where
       → (d ≡ c → op ≢ Add (place_of env.geometry (Section d)) 1) → section (applied core.words op) d ≡ section core.words d
   step_same core G c op all all' of plan d low apart =
       let same : (core_step mix core (Step c)).0.words ≡ applied core.words op = ap (λ o. (with_step mix core c o).0.words) plan in
-      op_same core.words op of.all all.words (subst (AllByRecursion IsWord) same all'.words) d low G c (held_of of.job)
-      (held_next (job_after mix env of.job (old_of core.words op))) of.step.move of.step.ready of.step.does apart
+      op_same core.words op of.all all.words (subst (AllByRecursion IsWord) same all'.words) d low G c (of_its_own (local_of core c).held (held_of of.job))
+      (of_its_own (local_of core c).held (held_next (job_after mix env of.job (old_of core.words op)))) of.step.move of.step.ready of.step.does apart
 
   -- the event is no operation of the caller
   abbrev pub IsOthers : Core L → Event → ℕ → Type 0
@@ -127,5 +129,5 @@ module _ (env : Env) (mix : ℕ → ℕ → ℕ → ℕ) (L : Type 0) where
           let same : (core_step mix core (Step c)).0.words ≡ applied core.words op = ap (λ o. (with_step mix core c o).0.words) is in
           let of = step_of env mix L core G c op all inv is in
           subst (λ words. SameOrTurned core.words words d) (sym same)
-          (op_turns core.words op of.all all.words (subst (AllByRecursion IsWord) same all'.words) d low G c (held_of of.job)
-          (held_next (job_after mix env of.job (old_of core.words op))) of.step.move of.few of.step.ready of.step.does)
+          (op_turns core.words op of.all all.words (subst (AllByRecursion IsWord) same all'.words) d low G c (of_its_own (local_of core c).held (held_of of.job))
+          (of_its_own (local_of core c).held (held_next (job_after mix env of.job (old_of core.words op)))) of.step.move of.few of.step.ready of.step.does)

@@ -1,19 +1,22 @@
 -- What is kept for waiting nodes, by the calls of all callers, behind an event, while the words are those before it; and that a node which is
 -- given back then no section has met.
-use Rattle.std.proofs.Common.{◌≡◌, ℕ, ◌<◌, ◌^◌, List, Option, Some, None, true, false, refl, sym, ◌∙◌, ap, subst, inl, inr, arith}
-use Rattle.std.specs.Prelude.{slice_index}
+use Rattle.std.proofs.Common.{◌≡◌, ℕ, ◌<◌, ◌^◌, List, Option, Some, None, Bool, true, false, refl, sym, ◌∙◌, ap, subst, inl, inr, arith}
+use Rattle.std.specs.Prelude.{slice_index, option_map}
 use Rattle.std.specs.Int.{bit_at}
 use Rattle.std.proofs.lemmas.Bool.{cases_eq}
 use Rattle.std.proofs.lemmas.Nat.Bits.{bit_at-pow_same, bit_at-pow_other}
 use Rattle.rht_words.specs.declared.op.Op.{Op}
 use Rattle.rht_words.specs.declared.op.Op.TheVariants.{Or}
 use Rattle.rht_words.specs.declared.env.Env.{Env}
+use Rattle.rht_ghost.proofs.Pieces.HeldSections.{of_its_own}
 use Rattle.rht_words.specs.declared.geometry.Geometry.{Geometry}
 use Rattle.rht_words.specs.Maps.{bit_of}
 use Rattle.rht_words.specs.Operations.{op_place, op_value, old_of}
 use Rattle.rht_words.proofs.EachElement.{each_set}
 use Rattle.rht_words.proofs.Memory.{Memory}
 use Rattle.rht_model.specs.declared.history.Call.{Call}
+use Rattle.rht_model.specs.declared.history.Call.TheVariants.{Tidy}
+use Rattle.rht_core.proofs.Machines.HeldSteps.{soft-none, soft-old, none_over}
 use Rattle.rht_arena.specs.Laws.{map_place, map_bit}
 use Rattle.rht_grace.specs.Batch.{BatchModel}
 use Rattle.rht_grace.specs.Tidy.{plan_at, give_of}
@@ -22,7 +25,7 @@ use Rattle.rht_grace.specs.declared.tidy.TidyAt.TheVariants as at
 use Rattle.rht_callers.specs.declared.local.Local.{Local}
 use Rattle.rht_callers.specs.declared.local.Doing.{Doing}
 use Rattle.rht_callers.specs.declared.local.Doing.TheVariants.{Idle, Tidying}
-use Rattle.rht_callers.specs.Locals.{fresh, does_nothing, doing_plan, begin_with, local_after}
+use Rattle.rht_callers.specs.Locals.{fresh, does_nothing, doing_plan, soft, may_hold, begin_with, local_after}
 use Rattle.rht_core.specs.declared.event.Event.{Event}
 use Rattle.rht_core.specs.declared.event.Event.TheVariants.{Enroll, Begin, Step}
 use Rattle.rht_core.specs.Jobs.{job_after, held_of, held_next}
@@ -67,16 +70,20 @@ module _ (env : Env) (mix : ℕ → ℕ → ℕ → ℕ) (L : Type 0) where
   idle-own M readers doing batch idle waits = absurd (cc)
 
   -- the word that a load of a tidying found
-  loaded-of : (words : List ℕ) (readers : ℕ → Reader) (doing : Doing L) (op : Op) → doing_plan doing ≡ Some op
+  loaded-of : (words : List ℕ) (readers : ℕ → Reader) (over : Bool) (doing : Doing L) (op : Op)
+      → option_map (soft over) (doing_plan doing) ≡ Some op
       → has_loaded env mix L (mem env mix words) readers doing (old_of words op)
-  loaded-of words readers (Tidying m) op plan = λ caller either. elim either [
-    | inl is ↦ ap (old_of words) (planned (at.Keeping caller) is)
-    | inr is ↦ ap (old_of words) (planned (at.Asking caller) is)
+  loaded-of words readers over (Tidying m) op plan = λ caller either. elim either [
+    | inl is ↦ planned (at.Keeping caller) is
+    | inr is ↦ planned (at.Asking caller) is
   ]
     where
-      planned : (state : TidyAt) → m.at ≡ state → op ≡ plan_at m.geometry m.batch state
-      planned state is = let same : plan_at m.geometry m.batch m.at ≡ op = cc in sym same ∙ ap (plan_at m.geometry m.batch) is
-  loaded-of words readers doing op plan = tt
+      planned : (state : TidyAt) → m.at ≡ state → old_of words op ≡ old_of words (plan_at m.geometry m.batch state)
+      planned state is =
+          let same : soft over (plan_at m.geometry m.batch m.at) ≡ op = cc in
+          ap (old_of words) (sym same) ∙ soft-old over (plan_at m.geometry m.batch m.at) words
+          ∙ ap (λ s. old_of words (plan_at m.geometry m.batch s)) is
+  loaded-of words readers over doing op plan = tt
 
   -- of each caller, by the words of the first of these and the calls of the second
   abbrev pub Waits : Core L → (ℕ → Reader) → ℕ → Local L → Type 0
@@ -110,7 +117,7 @@ module _ (env : Env) (mix : ℕ → ℕ → ℕ → ℕ) (L : Type 0) where
         let old = old_of core.words op in
         each_set (Waits core readers) (fresh core.env) core.locals c (local_after mix local old).0 place
         (λ low. after_of env mix L M readers local.doing local.batch old (tidies-of c local.doing (all.locals c).doing)
-        (loaded-of core.words readers local.doing op can.plan) (waits c low))
+        (loaded-of core.words readers local.held local.doing op can.plan) (waits c low))
         waits
 
     pub event_waits : (event : Event) → AllWait core readers core → AllWait core readers (core_step mix core event).0
@@ -124,9 +131,9 @@ module _ (env : Env) (mix : ℕ → ℕ → ℕ → ℕ) (L : Type 0) where
         (of : StepOf env mix L core G c op) (planned : planned_in core c ≡ Some op) (n : ℕ) (returns : of.step.move ≡ ReturnsNode n) where
       gives : op ≡ Or (map_place env.geometry n) (bit_of (map_bit n))
       gives =
-          let does : DoesReturnNode env.geometry n op (held_of of.job) (bare (held_next (job_after mix env of.job (old_of core.words op)))) =
-          subst (λ move. Does env mix move op (old_of core.words op) (held_of of.job)
-          (held_next (job_after mix env of.job (old_of core.words op)))) returns of.step.does in
+          let does : DoesReturnNode env.geometry n op (of_its_own (local_of core c).held (held_of of.job)) (bare (of_its_own (local_of core c).held (held_next (job_after mix env of.job (old_of core.words op))))) =
+          subst (λ move. Does env mix move op (old_of core.words op) (of_its_own (local_of core c).held (held_of of.job))
+          (of_its_own (local_of core c).held (held_next (job_after mix env of.job (old_of core.words op))))) returns of.step.does in
           does.giving
 
       by_state : (batch : BatchModel) (state : TidyAt) → IsTidyPlace env.geometry batch state → op ≡ plan_at env.geometry batch state
@@ -146,8 +153,13 @@ module _ (env : Env) (mix : ℕ → ℕ → ℕ → ℕ) (L : Type 0) where
           let tidying = tidying-of L local.doing of.job of.is (of.step.returning n returns) in
           let m = tidying.0 in
           let within = subst (IsDoingIn env c) tidying.1 (all.locals c).doing in
+          let over = (local_of core c).held in
+          let may : may_hold over Tidy ≡ true = subst (λ call. may_hold over call ≡ true) (of.step.returning n returns) of.may in
           let plan : plan_at m.geometry m.batch m.at ≡ op =
-          (let is : Some (plan_at m.geometry m.batch m.at) ≡ Some op = sym (ap doing_plan tidying.1) ∙ can.plan in cc) in
+          (let is : Some (soft over (plan_at m.geometry m.batch m.at)) ≡ Some op =
+          ap (option_map (soft over)) (sym (ap doing_plan tidying.1)) ∙ can.plan in
+          let same : soft over (plan_at m.geometry m.batch m.at) ≡ op = cc in
+          sym (ap (λ o. soft o (plan_at m.geometry m.batch m.at)) (none_over over may) ∙ soft-none (plan_at m.geometry m.batch m.at)) ∙ same) in
           by_state m.batch m.at within.at_in.at_in
           (sym plan ∙ ap (λ g. plan_at g m.batch m.at) within.same_geometry)
           (subst (λ doing. waits_of env mix L M readers doing local.batch) tidying.1 (waits c of.low))

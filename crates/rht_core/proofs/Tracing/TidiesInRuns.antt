@@ -3,7 +3,10 @@
 -- Of each caller it is kept, event by event, what its tidying has given back beside the batch before the call began, and that the machine
 -- which begins with that batch goes on from the present state. That batch is sound, by the invariant.
 -- And a caller in no call has the batch that was there behind its last call, for no event of another caller touches it.
-use Rattle.std.proofs.Common.{◌≡◌, ◌↔◌, ℕ, suc, ◌+◌, ◌/◌, ◌<◌, ◌≤◌, ◌++◌, ◌∷◌, List, [], length, drop, get_or, map, true, false, Option, Some, None, refl, sym, ap, ◌∙◌, subst, inl, inr, append_assoc, drop-cons, length-append, arith}
+use Rattle.std.proofs.Common.{◌≡◌, ◌↔◌, ℕ, suc, ◌+◌, ◌/◌, ◌<◌, ◌≤◌, ◌++◌, ◌∷◌, List, [], length, take, drop, get_or, map, true, false, Option, Some, None, refl, sym, ap, ◌∙◌, subst, inl, inr, append_assoc, drop-cons, length-append, arith}
+use Rattle.rht_core.specs.Jobs.{call_of}
+use Rattle.rht_callers.specs.Locals.{soft, may_hold}
+use Rattle.rht_core.proofs.Machines.HeldSteps.{none_over, soft-none}
 use Rattle.std.specs.Int.{bit_at}
 use Rattle.std.specs.List.{AllByRecursion, slice_get}
 use Rattle.std.proofs.lemmas.List.{append-nil}
@@ -181,7 +184,11 @@ module _ (M : Type 0) (mix : ℕ → ℕ → ℕ → ℕ) (env : Env) where
             knows.fits
 
         plan_is : did.op ≡ plan_at env.geometry m.batch m.at
-        plan_is = made.known.step.plan ∙ ap (job_plan env c) job_is
+        plan_is =
+            let over = (local_of made.known.core c).held in
+            let may = subst (λ job. may_hold over (call_of job) ≡ true) job_is made.known.step.may in
+            made.known.step.plan ∙ ap (λ o. soft o (job_plan env c made.known.step.job)) (none_over over may)
+            ∙ soft-none (job_plan env c made.known.step.job) ∙ ap (job_plan env c) job_is
 
         -- the node that it gives back was taken
         was_taken : (index : ℕ) → m.at ≡ at.Giving index

@@ -13,6 +13,7 @@ use Rattle.std.specs.List.{AllByRecursion, last_or}
 use Rattle.std.proofs.Math.Seq.{take-append_seam}
 use Rattle.std.proofs.lemmas.List.{append-nil, length_push, take-append-le}
 use Rattle.rht_words.specs.declared.env.Env.{Env}
+use Rattle.rht_words.specs.declared.op.Op.{Op}
 use Rattle.rht_words.specs.declared.machine.Next.{Next}
 use Rattle.rht_words.specs.declared.machine.Next.TheVariants.{Go, Done}
 use Rattle.rht_words.specs.Machines.{GoesOrEnds}
@@ -29,7 +30,7 @@ use Rattle.rht_core.specs.declared.book.Book.{Book}
 use Rattle.rht_callers.specs.declared.local.Local.{Local}
 use Rattle.rht_callers.specs.declared.local.Doing.{Doing}
 use Rattle.rht_callers.specs.Locals.{is_idle, machine_from, local_after, ending_of}
-use Rattle.rht_core.specs.Jobs.{Job, call_of, job_plan, job_after, job_of, told, IsFirstJob}
+use Rattle.rht_core.specs.Jobs.{Job, call_of, job_plan, job_after, job_of, told, held_of, IsFirstJob}
 use Rattle.rht_core.specs.Runs.{Core, World, View, planned_in, local_of, IsAdmitted, IsAdmittedEvent, view_of, run_of, world_step, book_begun, book_after, finished_with}
 use Rattle.rht_core.specs.Traces.{Did, Past, Trace, Traced, trace_begun, trace_did, traced_of}
 use Rattle.rht_core.specs.Seen.{words_before}
@@ -46,8 +47,12 @@ use Rattle.rht_core.proofs.Events.UnturnedSections.{section_at}
 use Rattle.rht_core.proofs.Events.TablesThere.{TablesStayed, TablesStayed-same}
 use Rattle.rht_ghost.proofs.Theory.Ghosts.{Ghost}
 use Rattle.rht_ghost.proofs.Theory.Wholes.{Whole}
+use Rattle.rht_ghost.proofs.Theory.Knowledge.{IsOpenAs}
+use Rattle.rht_ghost.proofs.Pieces.HeldSections.{is_in}
+use Rattle.rht_core.proofs.Machines.HeldSteps.{MayHold, IsNoLoad, soft-none, soft-old, hard-op}
+use Rattle.rht_callers.specs.Locals.{soft, may_hold}
 use Rattle.rht_ghost.proofs.Theory.Steps.{mem}
-use Rattle.rht_core.proofs.Machines.JobSteps.{JobIn, JobKnows, JobStepOf}
+use Rattle.rht_core.proofs.Machines.JobSteps.{JobIn, JobKnows, JobStepOf, JobStepOver}
 use Rattle.rht_core.proofs.Tracing.UnturnedSteps.{LeavesSection, UnturnedTo, unturned-none, unturned-stays, unturned-push}
 use Rattle.rht_core.proofs.Tracing.TracedCallers.{IsMade, IsKeptBeside, SectionStays, section_stays, traced_callers_keep_beside}
 use Rattle.rht_core.proofs.Returning.SectionWords.{IsOthers}
@@ -118,7 +123,9 @@ module _ (mix : ℕ → ℕ → ℕ → ℕ) (env : Env) where
   -- and is a step of the job
   pub record Performs (job : Job) (did : Did) : Type 0 where
     pub caller : ℕ
-    pub planned : did.op ≡ job_plan env caller job
+    pub over : Bool
+    pub planned : did.op ≡ soft over (job_plan env caller job)
+    pub may : MayHold over job
     pub words : List ℕ
     pub ghost : Ghost
     pub low : caller < env.geometry.callers
@@ -127,16 +134,53 @@ module _ (mix : ℕ → ℕ → ℕ → ℕ) (env : Env) where
     pub whole : Whole env mix (mem env mix words) ghost
     pub within : JobIn env mix caller job
     pub knows : JobKnows env mix caller job (mem env mix words) ghost
+    pub is_open : IsOpenAs (is_in over (held_of job).section) (ghost.from caller)
     pub found : did.old ≡ old_of words did.op
     pub step :
         let r = job_after mix env job did.old in
-        JobStepOf env mix caller words ghost did.op job r
+        JobStepOver env mix caller over words ghost did.op job r
+
+  -- a call that isn't made in a hold makes its machine's operations
+  pub not_over : {job : Job} {did : Did} → may_hold true (call_of job) ≡ false → (performs : Performs job did) → performs.over ≡ false
+  not_over {job} barred performs = go performs.over performs.may
+    where
+      go : (over : Bool) → may_hold over (call_of job) ≡ true → over ≡ false
+      go false may = refl
+      go true may = absurd (let both = sym barred ∙ may in cc)
+
+  pub hard : {job : Job} {did : Did} → may_hold true (call_of job) ≡ false → (performs : Performs job did)
+      → did.op ≡ job_plan env performs.caller job
+  hard {job} barred performs =
+      performs.planned ∙ ap (λ over. soft over (job_plan env performs.caller job)) (not_over barred performs)
+      ∙ soft-none (job_plan env performs.caller job)
+
+  -- a caller that holds no section open makes its machine's operations, and its call holds what its machine says
+  pub hard_rests : {job : Job} {did : Did} (performs : Performs job did) → performs.over ≡ false → did.op ≡ job_plan env performs.caller job
+  hard_rests {job} performs rests =
+      performs.planned ∙ ap (λ over. soft over (job_plan env performs.caller job)) rests ∙ soft-none (job_plan env performs.caller job)
+
+  pub step_rests : {job : Job} {did : Did} (performs : Performs job did) → performs.over ≡ false
+      → JobStepOf env mix performs.caller performs.words performs.ghost did.op job (job_after mix env job did.old)
+  step_rests {job} {did} performs rests =
+      subst (λ over. JobStepOver env mix performs.caller over performs.words performs.ghost did.op job (job_after mix env job did.old))
+      rests performs.step
+
+  -- whatever it makes that is no load is its machine's
+  pub hard_by : {job : Job} {did : Did} (performs : Performs job did) (op : Op) → IsNoLoad op → did.op ≡ op
+      → did.op ≡ job_plan env performs.caller job
+  hard_by {job} performs op none is = is ∙ hard-op performs.over (job_plan env performs.caller job) op none (sym performs.planned ∙ is)
+
+  -- whatever it makes, it finds the word that its machine would find
+  pub found_as : {job : Job} {did : Did} (performs : Performs job did) → did.old ≡ old_of performs.words (job_plan env performs.caller job)
+  found_as {job} performs =
+      performs.found ∙ ap (old_of performs.words) performs.planned ∙ soft-old performs.over (job_plan env performs.caller job) performs.words
 
   -- Where these are the words before the event with each number, the operation was performed in those before its event, and left those
   -- behind it. From each operation of the call on from which on none turned the caller's section word, that stayed. While it stays the buckets
   -- that tables had to which the section comes stay where they were, and each slot that had such a table before has it still. Of a table that
   -- is given back it is known how that was when its shape was loaded.
   pub record StandsIn (words_at : ℕ → List ℕ) (job : Job) (steps : List Did) (did : Did) (performs : Performs job did) : Type 0 where
+    pub rests : performs.over ≡ false
     pub now : performs.words ≡ words_at did.index
     pub next : applied performs.words did.op ≡ words_at (did.index + 1)
     pub unturned : UnturnedTo env.geometry words_at performs.caller steps did.index
@@ -151,6 +195,7 @@ module _ (mix : ℕ → ℕ → ℕ → ℕ) (env : Env) where
     pub does : doing ≡ Some job
     pub performs : Performs job did
     pub own : performs.caller ≡ c
+    pub rests : performs.over ≡ false
     pub here : performs.words ≡ (run_of {M = M} mix env events).core.words
     pub inv : Inv env mix M (run_of mix env events).core performs.ghost
     pub stayed : TablesStayed env mix (words_before M mix env events) performs.caller performs.ghost (length events)
@@ -166,7 +211,9 @@ module _ (mix : ℕ → ℕ → ℕ → ℕ) (env : Env) where
         does = ap (λ (l : Local M). job_of l.doing) (sym known.here) ∙ of.is;
         performs = record {
           caller = c;
+          over = (local_of known.core c).held;
           planned = of.plan;
+          may = of.may;
           words = known.core.words;
           ghost = known.ghost;
           low = of.low;
@@ -175,12 +222,14 @@ module _ (mix : ℕ → ℕ → ℕ → ℕ) (env : Env) where
           whole = known.inv.whole;
           within = of.within;
           knows = of.knows;
+          is_open = of.is_open;
           found = known.found;
           step = subst (λ old. let r = job_after mix env of.job old in
-              JobStepOf env mix c known.core.words known.ghost did.op of.job r)
+              JobStepOver env mix c (local_of known.core c).held known.core.words known.ghost did.op of.job r)
               (sym known.found) of.step;
         };
         own = refl;
+        rests = known.inv.rests c;
         here = ap (λ (core : Core M). core.words) made.now;
         inv = subst (λ (core : Core M). Inv env mix M core known.ghost) made.now known.inv;
         stayed = made.stayed;
@@ -329,15 +378,16 @@ module _ (M : Type 0) (mix : ℕ → ℕ → ℕ → ℕ) (env : Env) (Now : Job
       stands_in : (past rest : List Event) (c : ℕ) (job : Job) (steps : List Did) (did : Did) (performs : Performs mix env job did)
           → IsAdmitted events → events ≡ past ++ Steps c ∷ rest → did.index ≡ length past
           → IsRecorded M mix env (past ++ Steps c ∷ []) c did
-          → performs.words ≡ (run_of {M = M} mix env past).core.words
+          → performs.over ≡ false → performs.words ≡ (run_of {M = M} mix env past).core.words
           → Inv env mix M (run_of mix env past).core performs.ghost
           → TablesStayed env mix (words_before M mix env past) performs.caller performs.ghost (length past)
           → UnturnedTo env.geometry (words_before M mix env events) performs.caller steps (length past)
           → StandsInStage env.geometry (words_before M mix env events) (stage_of job) steps did.old
           → StandsIn mix env (words_before M mix env events) job steps did performs
-      stands_in past rest c job steps did performs admitted all is recorded here inv stayed calm giving =
+      stands_in past rest c job steps did performs admitted all is recorded rests here inv stayed calm giving =
           let stay = buckets-stay env mix M performs.caller performs.few past (Steps c ∷ rest) performs.ghost inv (subst IsAdmitted all admitted) in
           record {
+            rests = rests;
             now = here ∙ words_now past (Steps c ∷ rest) did.index all is;
             next = ap (λ ws. applied ws did.op) here ∙ words_next past rest c did all is recorded;
             unturned = subst (UnturnedTo env.geometry (words_before M mix env events) performs.caller steps) (sym is) calm;
@@ -429,7 +479,7 @@ module _ (M : Type 0) (mix : ℕ → ℕ → ℕ → ℕ) (env : Env) (Now : Job
           let work : IsWorkOf Before job here.book trace.steps =
           subst (λ (j : Option Job). IsAtJobOf Before j here.book trace.steps) planning.does now in
           let performs = planning.performs in
-          let stands = stands_in past rest c job trace.steps did performs admitted all made.index made.recorded planning.here planning.inv
+          let stands = stands_in past rest c job trace.steps did performs admitted all made.index made.recorded planning.rests planning.here planning.inv
           planning.stayed
           (subst (λ k. UnturnedTo env.geometry (words_before M mix env events) k trace.steps (length past)) (sym planning.own) calm)
           (gives-stands past c did here trace.steps (past_admitted past (Steps c ∷ rest) admitted all) made job planning.does gives) in

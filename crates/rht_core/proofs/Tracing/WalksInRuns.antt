@@ -31,7 +31,7 @@ use Rattle.rht_core.specs.Runs.{IsAdmitted}
 use Rattle.rht_core.specs.Traces.{Did, Past, performed_of, traced_of}
 use Rattle.rht_core.specs.WalkCauses.{SawForWalk}
 use Rattle.rht_core.proofs.Events.JobsOfCallers.{first_tidy-so, each_goes, same_call, first-of}
-use Rattle.rht_core.proofs.Tracing.TracedJobs.{Performs, LeadsOn, IsAtJob, jobs_keep_own}
+use Rattle.rht_core.proofs.Tracing.TracedJobs.{hard_rests, Performs, LeadsOn, IsAtJob, jobs_keep_own}
 
 abbrev with_steps : List Performed → Next Shown → Ran Shown
 with_steps steps next = record { steps = steps; next = next }
@@ -154,12 +154,12 @@ module _ (mix : ℕ → ℕ → ℕ → ℕ) (env : Env) (c : ℕ) where
   first-now Tidy batch start = first_tidy-so (λ job. Now job []) batch (λ own. tt)
   first-now _ batch start = tt
 
-  leads : (L : Type 0) (job : Job) (steps : List Did) (did : Did) (performs : Performs mix env job did) → performs.caller ≡ c
+  leads : (L : Type 0) (job : Job) (steps : List Did) (did : Did) (performs : Performs mix env job did) → performs.over ≡ false → performs.caller ≡ c
       → Now job steps → LeadsOn L mix env Now Ended job (steps ++ did ∷ []) (job_after mix env job did.old)
-  leads L (walks from limit room state) steps did performs own now =
+  leads L (walks from limit room state) steps did performs rests own now =
       let after = walk.room_after state room did.old in
       go after (walk_gone env from limit room after state did.old)
-      (runs_on env c from limit room state steps did (performs.planned ∙ ap (λ caller. walk.plan_at env.geometry caller state) own) now)
+      (runs_on env c from limit room state steps did (hard_rests mix env performs rests ∙ ap (λ caller. walk.plan_at env.geometry caller state) own) now)
     where
       go : (after : Pairs) (next : WalkAt × Next Reply) → RunsOn env c from limit (steps ++ did ∷ []) after next
           → LeadsOn L mix env Now Ended (walks from limit room state) (steps ++ did ∷ []) (job_next (walks from limit after) (walk_ending after) next)
@@ -168,7 +168,7 @@ module _ (mix : ℕ → ℕ → ℕ → ℕ) (env : Env) (c : ℕ) where
         saw = ends_rightly env c from limit (steps ++ did ∷ []) after next reply runs;
         soon = is_soon env c from limit (steps ++ did ∷ []) after (next, Done reply) runs;
       }
-  leads L job steps did performs own now =
+  leads L job steps did performs rests own now =
       let all = steps ++ did ∷ [] in
       each_goes (λ after. Now after all) (λ ending. Ended (call_of job) ending all) (call_of job) (job_after mix env job did.old)
       (same_call mix env job did.old) (λ after same. other-now after all (ap is_walk same))
@@ -204,7 +204,7 @@ walked L mix env events c admitted =
     (jobs_keep_own L mix env (Now mix env c) (Ended mix env c) events c
     (record {
       begins = λ call job is. first-of (λ j. Now mix env c j []) env call job (first-now mix env c call) is;
-      goes = λ job steps did performs own stands now. leads mix env c L job steps did performs own now;
+      goes = λ job steps did performs own stands now. leads mix env c L job steps did performs stands.rests own now;
     }) admitted).past
 
 pub walks_soon : (L : Type 0) (mix : ℕ → ℕ → ℕ → ℕ) → WalksSoon L mix
@@ -212,7 +212,7 @@ walks_soon L mix env events c admitted =
     let kept = jobs_keep_own L mix env (Now mix env c) (Ended mix env c) events c
     (record {
       begins = λ call job is. first-of (λ j. Now mix env c j []) env call job (first-now mix env c call) is;
-      goes = λ job steps did performs own stands now. leads mix env c L job steps did performs own now;
+      goes = λ job steps did performs own stands now. leads mix env c L job steps did performs stands.rests own now;
     }) admitted in
     record {
       past =

@@ -2,6 +2,10 @@
 --
 -- Of a nested table it is kept, beside the events so far, that some ghost is right in which the table is as it was then, but for the entries
 -- that are cleared.
+use Rattle.rht_model.specs.declared.history.Call.TheVariants.{Work}
+use Rattle.rht_core.specs.Jobs.{call_of}
+use Rattle.rht_callers.specs.Locals.{soft, may_hold}
+use Rattle.rht_core.proofs.Machines.HeldSteps.{no_work, soft-none}
 use Rattle.std.proofs.Common.{◌≡◌, ◌≢◌, ℕ, ◌+◌, ◌*◌, Bool, true, false, List, [], ◌∷◌, ◌++◌, take, Option, Some, None, refl, sym, ap, ◌∙◌, subst, inl, inr}
 use Rattle.std.specs.Prelude.{IfSome}
 use Rattle.std.proofs.Math.Seq.{take-append_seam}
@@ -235,7 +239,7 @@ module _ (env : Env) (mix : ℕ → ℕ → ℕ → ℕ) where
 
       -- ---- an operation of its own
 
-      module _ (steps : List Did) (did : Did) (within : JobIn env mix c job) (planned : did.op ≡ job_plan env c job)
+      module _ (steps : List Did) (did : Did) (within : JobIn env mix c job) (planned : call_of job ≡ Work → did.op ≡ job_plan env c job)
           (plans : planned_in core c ≡ Some did.op) (found : did.old ≡ old_of core.words did.op) where
         -- what is known before it
         stands_down : (slot : ℕ) (state : GiveTableAt) → IsGiving slot state job → (W : List ℕ) (shape : ℕ)
@@ -243,7 +247,7 @@ module _ (env : Env) (mix : ℕ → ℕ → ℕ → ℕ) where
         stands_down slot state giving W shape down = go (is_taken_down state) refl
           where
             op_is : did.old ≡ old_of core.words (give_table_plan_at g slot state)
-            op_is = found ∙ ap (old_of core.words) (planned ∙ giving_plan c job slot state giving within)
+            op_is = found ∙ ap (old_of core.words) (planned (ap call_of giving.is) ∙ giving_plan c job slot state giving within)
 
             go : (t : Bool) → is_taken_down state ≡ t → EntryDidSo g W shape state did.old
             go true is =
@@ -299,7 +303,7 @@ module _ (env : Env) (mix : ℕ → ℕ → ℕ → ℕ) where
             let over = knows.more in
             let within_it = retired-within env mix M G inv.whole slot over.table over.retired in
             record {
-              has = loaded-now g words_at slot steps did (planned ∙ giving_plan c job slot gives.Shape giving within)
+              has = loaded-now g words_at slot steps did (planned (ap call_of giving.is) ∙ giving_plan c job slot gives.Shape giving within)
                   (ap (λ ws. word_at g ws (Slot slot StateWord)) (sym here) ∙ inv.whole.slots.states slot within_it
                   ∙ ap state_word over.retired);
               down = λ taken. subst (λ ws. IsGoingDown behind ws did.old slot) here
@@ -376,8 +380,13 @@ module _ (env : Env) (mix : ℕ → ℕ → ℕ → ℕ) where
       within_now : JobIn env mix c job
       within_now = subst (JobIn env mix c) one_job made.known.step.within
 
-      planned_now : did.op ≡ job_plan env c job
-      planned_now = made.known.step.plan ∙ ap (job_plan env c) one_job
+      planned_now : call_of job ≡ Work → did.op ≡ job_plan env c job
+      planned_now work =
+          let over = (local_of made.known.core c).held in
+          let may : may_hold over Work ≡ true =
+          subst (λ call. may_hold over call ≡ true) (ap call_of one_job ∙ work) made.known.step.may in
+          made.known.step.plan ∙ ap (λ o. soft o (job_plan env c made.known.step.job)) (no_work over may)
+          ∙ soft-none (job_plan env c made.known.step.job) ∙ ap (job_plan env c) one_job
 
       plans_now : planned_in (core_of past) c ≡ Some did.op
       plans_now =

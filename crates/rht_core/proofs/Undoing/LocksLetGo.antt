@@ -39,7 +39,7 @@ use Rattle.rht_core.proofs.Machines.JobSteps.{JobIn}
 use Rattle.rht_core.proofs.Machines.NeverHeld.{tableless, front-tableless, pageless}
 use Rattle.rht_core.proofs.Events.JobsOfCallers.{same_call, first_holds, first_without, first-of, first_tidy-so}
 use Rattle.rht_core.proofs.Events.SectionsInRuns.{SparesSections, odd_by, by_move}
-use Rattle.rht_core.proofs.Tracing.TracedJobs.{Performs, LeadsOn, IsEndedSo}
+use Rattle.rht_core.proofs.Tracing.TracedJobs.{hard_rests, step_rests, Performs, LeadsOn, IsEndedSo}
 use Rattle.rht_core.proofs.Tracing.JobsBeside.{kept_beside}
 use Rattle.rht_core.proofs.Reasons.CausesInRuns.{JobSaw, EndsSeen, job-leads, first_job-saw}
 use Rattle.rht_core.proofs.Undoing.EnteringBinds.{CameToEnter, attaching-none, saw-came, came_to_entry}
@@ -190,7 +190,7 @@ module _ (M : Type 0) (mix : ℕ → ℕ → ℕ → ℕ) (env : Env) (events : 
   turns_section : (t x y : ℕ) → t ≡ 1 → x + y ≡ 1 → (t + x + y) % 2 ≡ 0
   turns_section t x y turns one = omega (arith, turns, one)
 
-  module _ (job : Job) (steps : List Did) (did : Did) (performs : Performs mix env job did) (own : performs.caller ≡ c)
+  module _ (job : Job) (steps : List Did) (did : Did) (performs : Performs mix env job did) (rests : performs.over ≡ false) (own : performs.caller ≡ c)
       (here : performs.words ≡ words_at did.index) (giving : StandsInStage g words_at (stage_of job) steps did.old)
       (came : CameToEnter g job steps) (kept : Now job steps) where
     abbrev all : List Did
@@ -213,8 +213,8 @@ module _ (M : Type 0) (mix : ℕ → ℕ → ℕ → ℕ) (env : Env) (events : 
       node_in = kept.1.node_in;
     }
 
-    abbrev does : Does env mix performs.step.move did.op did.old (held_of job) (held_next next)
-    does = subst (λ old. Does env mix performs.step.move did.op old (held_of job) (held_next next)) (sym performs.found) performs.step.does
+    abbrev does : Does env mix (step_rests mix env performs rests).move did.op did.old (held_of job) (held_next next)
+    does = subst (λ old. Does env mix (step_rests mix env performs rests).move did.op old (held_of job) (held_next next)) (sym performs.found) (step_rests mix env performs rests).does
 
     -- a page that it has it has taken
     taken : is_returning (stage_of job) ≡ false → refusals.UndoesInStage M mix env events c (stage_of job) job steps → (page : ℕ)
@@ -235,7 +235,7 @@ module _ (M : Type 0) (mix : ℕ → ℕ → ℕ → ℕ) (env : Env) (events : 
     enters_now out place e =
         let there = mem env mix performs.words in
         let is_early = early env mix performs.caller there performs.ghost did e.entry e.page e.does.entering job performs.within
-        performs.planned e.does.had in
+        (hard_rests mix env performs rests) e.does.had in
         let unset : there (PageWord e.entry) ≡ 0 =
         sym (ap (old_of performs.words) e.does.entering) ∙ sym performs.found ∙ e.does.found in
         elim kept.0 [
@@ -247,7 +247,7 @@ module _ (M : Type 0) (mix : ℕ → ℕ → ℕ → ℕ) (env : Env) (events : 
               here = e.here;
               entered = record {
                 may = enters env mix performs.caller there performs.ghost did e.entry e.page e.does.entering job is_early.not_past
-                    performs.planned e.does.had;
+                    (hard_rests mix env performs rests) e.does.had;
                 page = e.page;
                 entered = record {
                   before = steps;
@@ -264,7 +264,7 @@ module _ (M : Type 0) (mix : ℕ → ℕ → ℕ → ℕ) (env : Env) (events : 
                       (entering_missing env mix performs.caller e.entry e.page performs.words performs.ghost steps performs.whole e.ready
                       unset
                       (came_to_entry env mix performs.caller there performs.ghost did e.entry e.page e.does.entering performs.whole steps
-                      job is_early.not_past performs.within performs.knows performs.planned e.does.had came));
+                      job is_early.not_past performs.within performs.knows (hard_rests mix env performs rests) e.does.had came));
                   took = taken out may.undoes e.page e.does.had;
                 };
               };
@@ -284,11 +284,11 @@ module _ (M : Type 0) (mix : ℕ → ℕ → ℕ → ℕ) (env : Env) (events : 
           entered = entered-more g words_at was.index was.entered.page steps did was.entered.entered;
         };
       })
-      | inr even ↦ elim (turns_evenly step performs.step.move
+      | inr even ↦ elim (turns_evenly step (step_rests mix env performs rests).move
           (λ j p withdraws.
           let in_it = withdraws_returning env mix performs.caller job did.op did.old performs.within j p
           (subst (λ m. Does env mix m did.op did.old (held_of job) (held_next next)) withdraws does) in
-          let both = sym in_it ∙ out in cc) performs.step.ready performs.step.made.whole does place is) [
+          let both = sym in_it ∙ out in cc) (step_rests mix env performs rests).ready (step_rests mix env performs rests).made.whole does place is) [
             | inl enters_it ↦ inl (enters_now out place enters_it)
             | inr now ↦ inr (balanced-push g words_at (call_of job) None None place 0 steps did (lock_bits g (held_of job) place)
                 (returned-more g words_at None place 0 steps did) (lock_bits g (held_next next) place) now even)
@@ -365,7 +365,7 @@ module _ (M : Type 0) (mix : ℕ → ℕ → ℕ → ℕ) (env : Env) (events : 
         → StandsInStage g words_at from steps did.old → stage_now (told next).0 ≡ Opens → TurnedNext next
     opens_from from goes is in_it stands then =
         opening_next next then
-        (returns_goes mix env words_at job steps did performs from Opens goes is in_it stands (returning_so from is in_it))
+        (returns_goes mix env words_at job steps did performs rests from Opens goes is in_it stands (returning_so from is in_it))
 
     turned_next : (from to : Stage) → GoesTo g did.old from to → stage_of job ≡ from → stage_now (told next).0 ≡ to
         → TurnedInStage from job steps → StandsInStage g words_at from steps did.old → TurnedNext next
@@ -396,7 +396,7 @@ module _ (M : Type 0) (mix : ℕ → ℕ → ℕ → ℕ) (env : Env) (events : 
         let now = odd_by (held_next next).section in
         let even : (turned place 0 did + was + now) % 2 ≡ 0 =
         elim (by_move env mix performs.caller (mem env mix performs.words) performs.ghost did.op did.old (held_of job) (held_next next)
-        performs.step.move performs.step.ready does) [
+        (step_rests mix env performs rests).move (step_rests mix env performs rests).ready does) [
           | inl kept_so ↦
               unturned _ _ _ (spares_section kept_so.spares (subst (λ k. k < 16) own performs.few)) (ap odd_by kept_so.same)
           | inr turning ↦
@@ -408,7 +408,7 @@ module _ (M : Type 0) (mix : ℕ → ℕ → ℕ → ℕ) (env : Env) (events : 
         ∙ one_more (turns place 0 steps) (turned place 0 did) was now kept.1.section even
 
     node_next : (node : ℕ) → (held_next next).node ≡ Some node → node < g.nodes
-    node_next = node_then env mix did.op did.old (held_of job) (held_next next) kept.1.node_in performs.step.move does
+    node_next = node_then env mix did.op did.old (held_of job) (held_next next) kept.1.node_in (step_rests mix env performs rests).move does
 
     by_next : (r : Job × Next Ending) → TurnedNext r → TurnedSection (held_next r) all
         → ((node : ℕ) → (held_next r).node ≡ Some node → node < g.nodes)
@@ -430,7 +430,7 @@ module _ (M : Type 0) (mix : ℕ → ℕ → ℕ → ℕ) (env : Env) (events : 
         by_next next
         (turned_next (stage_of job) (stage_now (told next).0) (stage_goes mix env performs.caller job did.old performs.within) refl refl
         kept.1.turned giving)
-        section_then node_next (refusals.goes M mix env events c job steps did performs own here giving came kept.0)
+        section_then node_next (refusals.goes M mix env events c job steps did performs rests own here giving came kept.0)
 
   -- ---- the beginning
 
@@ -494,6 +494,6 @@ let_go M mix env events c admitted =
     (record {
       begins = λ call job is. (refusals.begins M mix env events c call job is, begins M mix env events c call job is);
       goes = λ job steps did performs own stands saw kept.
-          goes_on M mix env events c job steps did performs own stands.now stands.giving
+          goes_on M mix env events c job steps did performs stands.rests own stands.now stands.giving
           (saw-came env c (words_before M mix env events) mix job steps saw) kept;
     }) admitted)

@@ -55,7 +55,7 @@ use Rattle.rht_ghost.proofs.Theory.Steps.{Holding, mem, ghost_after, Does, Retur
 use Rattle.rht_core.proofs.Meaning.BoundPorts.{stands_for_bound}
 use Rattle.rht_core.proofs.Events.Worlds.{run_of-next, step_words}
 use Rattle.rht_core.proofs.Events.JobsOfCallers.{each_goes, first_tidy-so, same_call, first-of}
-use Rattle.rht_core.proofs.Tracing.TracedJobs.{Performs, LeadsOn, IsEndedSo}
+use Rattle.rht_core.proofs.Tracing.TracedJobs.{found_as, hard_rests, step_rests, Performs, LeadsOn, IsEndedSo}
 use Rattle.rht_core.proofs.Tracing.JobsBeside.{kept_beside}
 use Rattle.rht_core.proofs.Tracing.BehindCalls.{section_left}
 use Rattle.rht_core.proofs.Reasons.CausesInRuns.{JobSaw, EndsSeen, job-leads, first_job-saw}
@@ -119,7 +119,7 @@ module _ (env : Env) (mix : ℕ → ℕ → ℕ → ℕ) where
       → WorkMeans env mix performs.caller (mem env mix performs.words) performs.ghost (Rooted root Onward) → slot_of did.old ≢ None
   onward_some root due did performs knows none =
       let found : did.old ≡ mem env mix performs.words (Slot root FutureWord) =
-      performs.found ∙ ap (old_of performs.words) performs.planned in
+      found_as mix env performs in
       has_future env mix performs.caller (mem env mix performs.words) performs.ghost performs.whole root knows
       (sym (ap slot_of found) ∙ none)
 
@@ -324,7 +324,7 @@ module _ (M : Type 0) (mix : ℕ → ℕ → ℕ → ℕ) (env : Env) (events : 
     by_next (after, Go) leaves undoes stored = go_on after leaves undoes stored (is_past after) refl
     by_next (after, Done ending) leaves undoes stored = end after ending leaves undoes
 
-    module _ (performs : Performs mix env job did) (own : performs.caller ≡ c)
+    module _ (performs : Performs mix env job did) (rests : performs.over ≡ false) (own : performs.caller ≡ c)
         (here : performs.words ≡ words_before M mix env events did.index)
         (giving : StandsInStage g (words_before M mix env events) (stage_of job) steps did.old) (came : CameToEnter g job steps) where
       abbrev after : Holding
@@ -346,10 +346,10 @@ module _ (M : Type 0) (mix : ℕ → ℕ → ℕ → ℕ) (env : Env) (events : 
       undoes out was low_then still_then =
           let gone_then : GoneWhereEntered g (words_before M mix env events) c (call_of job) steps did (held_of job) after =
           λ entry page exchanges free had i.
-          gone env mix performs.caller (mem env mix performs.words) performs.ghost did entry page exchanges job may performs.planned
+          gone env mix performs.caller (mem env mix performs.words) performs.ghost did entry page exchanges job may (hard_rests mix env performs rests)
           had (subst (λ old. In page (held_next (job_after mix env job old)).pages) free i) in
           let holds = refusable job may in
-          let step = performs.step in
+          let step = step_rests mix env performs rests in
           let so_far : Undoes g (words_before M mix env events) performs.caller (call_of job) (held_of job) steps =
           subst (λ k. Undoes g (words_before M mix env events) k (call_of job) (held_of job) steps) (sym own) was in
           let goes_back : GoesBack env mix (words_before M mix env events) (call_of job) = record {
@@ -369,33 +369,33 @@ module _ (M : Type 0) (mix : ℕ → ℕ → ℕ → ℕ) (env : Env) (events : 
               low_then = low_then;
               still = holds.still;
               still_then = still_then;
-              locked_leaves = locked-leaves env mix performs.caller did.op did.old job may performs.planned;
+              locked_leaves = locked-leaves env mix performs.caller did.op did.old job may (hard_rests mix env performs rests);
               slot_mine = slot_mine env mix performs.caller (mem env mix performs.words) performs.ghost job may out performs.knows;
               mine = mine env mix performs.caller (mem env mix performs.words) performs.ghost job may performs.knows;
               attaches = λ last slot low exchanges has.
                   attaches env mix performs.caller (mem env mix performs.words) performs.ghost steps did last slot
-                  low exchanges job may performs.knows kept.stored performs.planned has;
+                  low exchanges job may performs.knows kept.stored (hard_rests mix env performs rests) has;
               enters = λ entry page exchanges has.
                   let there = mem env mix performs.words in
                   record {
-                    may = enters env mix performs.caller there performs.ghost did entry page exchanges job may performs.planned has;
+                    may = enters env mix performs.caller there performs.ghost did entry page exchanges job may (hard_rests mix env performs rests) has;
                     came =
                         came_to_entry env mix performs.caller there performs.ghost did entry page exchanges performs.whole steps
-                        job may performs.within performs.knows performs.planned has came;
+                        job may performs.within performs.knows (hard_rests mix env performs rests) has came;
                   };
             };
           } in
           let does : Does env mix step.move did.op did.old (held_of job) after =
           subst (λ old. Does env mix step.move did.op old (held_of job) after) (sym performs.found) step.does in
           elim (kept_by goes_back step.move
-          (λ n returns. returns_none performs.caller job did (held_of job) after n may performs.planned (step.returning n returns)
+          (λ n returns. returns_none performs.caller job did (held_of job) after n may (hard_rests mix env performs rests) (step.returning n returns)
           (subst (λ m. Does env mix m did.op did.old (held_of job) after) returns does))
           (λ j p withdraws.
           let in_it = withdraws_returning env mix performs.caller job did.op did.old performs.within j p
           (subst (λ m. Does env mix m did.op did.old (held_of job) after) withdraws does) in
           let both = sym in_it ∙ out in cc)
           (λ s index bits takes.
-          takes_back_none env mix performs.caller performs.few job did.op did.old after may performs.within out performs.planned s index bits
+          takes_back_none env mix performs.caller performs.few job did.op did.old after may performs.within out (hard_rests mix env performs rests) s index bits
           (subst (λ m. Does env mix m did.op did.old (held_of job) after) takes does)) step.ready does) [
             | inl says ↦ inl says
             | inr keeps ↦ inr (
@@ -456,7 +456,7 @@ module _ (M : Type 0) (mix : ℕ → ℕ → ℕ → ℕ) (env : Env) (events : 
           → UndoesNext (job_after mix env job did.old)
       undoes_next _ _ (takes_lock free) is then was stands =
           returning_next (job_after mix env job did.old) Asks then refl
-          (takes_so mix env (words_before M mix env events) job steps did performs is free was)
+          (takes_so mix env (words_before M mix env events) job steps did performs rests is free was)
       undoes_next _ _ lock_taken is then was stands =
           let nothing = ap held_of (lock_job job is) in
           behind_next (job_after mix env job did.old) (same_call mix env job did.old) then
@@ -470,29 +470,29 @@ module _ (M : Type 0) (mix : ℕ → ℕ → ℕ → ℕ) (env : Env) (events : 
           behind_next (job_after mix env job did.old) (same_call mix env job did.old) then (undoes (ap is_returning is) was)
       undoes_next _ _ asks_on is then was stands =
           returning_next (job_after mix env job did.old) Asks then refl
-          (returns_goes mix env (words_before M mix env events) job steps did performs Asks Asks asks_on is refl stands was)
+          (returns_goes mix env (words_before M mix env events) job steps did performs rests Asks Asks asks_on is refl stands was)
       undoes_next _ _ (to_shape slot) is then was stands =
           returning_next (job_after mix env job did.old) (Loads slot) then refl
-          (returns_goes mix env (words_before M mix env events) job steps did performs Asks (Loads slot) (to_shape slot) is refl stands was)
+          (returns_goes mix env (words_before M mix env events) job steps did performs rests Asks (Loads slot) (to_shape slot) is refl stands was)
       undoes_next _ _ asked_all is then was stands =
           opening_next (job_after mix env job did.old) then
-          (returns_goes mix env (words_before M mix env events) job steps did performs Asks Opens asked_all is refl stands was)
+          (returns_goes mix env (words_before M mix env events) job steps did performs rests Asks Opens asked_all is refl stands was)
       undoes_next _ _ (loaded slot) is then was stands =
           let to = Gives slot (shape_seen g did.old) in
           returning_next (job_after mix env job did.old) to then refl
-          (returns_goes mix env (words_before M mix env events) job steps did performs (Loads slot) to (loaded slot) is refl stands was)
+          (returns_goes mix env (words_before M mix env events) job steps did performs rests (Loads slot) to (loaded slot) is refl stands was)
       undoes_next _ _ (gives_on slot state other) is then was stands =
           let to = Gives slot (give_table_after_at g state did.old).0 in
           returning_next (job_after mix env job did.old) to then refl
-          (returns_goes mix env (words_before M mix env events) job steps did performs (Gives slot state) to (gives_on slot state other) is
+          (returns_goes mix env (words_before M mix env events) job steps did performs rests (Gives slot state) to (gives_on slot state other) is
           refl stands was)
       undoes_next _ _ (freed slot) is then was stands =
           returning_next (job_after mix env job did.old) Asks then refl
-          (returns_goes mix env (words_before M mix env events) job steps did performs (Gives slot free_slot) Asks (freed slot) is refl stands
+          (returns_goes mix env (words_before M mix env events) job steps did performs rests (Gives slot free_slot) Asks (freed slot) is refl stands
           was)
       undoes_next _ _ (freed_last slot) is then was stands =
           opening_next (job_after mix env job did.old) then
-          (returns_goes mix env (words_before M mix env events) job steps did performs (Gives slot free_slot) Opens (freed_last slot) is refl
+          (returns_goes mix env (words_before M mix env events) job steps did performs rests (Gives slot free_slot) Opens (freed_last slot) is refl
           stands was)
 
       leads_on : Leads job all (job_after mix env job did.old)
@@ -500,24 +500,24 @@ module _ (M : Type 0) (mix : ℕ → ℕ → ℕ → ℕ) (env : Env) (events : 
           by_next (job_after mix env job did.old) leaves
           (undoes_next (stage_of job) (stage_now (told (job_after mix env job did.old)).0)
           (stage_goes mix env performs.caller job did.old performs.within) refl refl kept.undoes giving)
-          (stored_then performs.caller job steps did may performs.planned kept.stored)
+          (stored_then performs.caller job steps did may (hard_rests mix env performs rests) kept.stored)
 
   -- ---- each operation, and the beginning
 
-  pub goes : (job : Job) (steps : List Did) (did : Did) (performs : Performs mix env job did) → performs.caller ≡ c
+  pub goes : (job : Job) (steps : List Did) (did : Did) (performs : Performs mix env job did) → performs.over ≡ false → performs.caller ≡ c
       → performs.words ≡ words_before M mix env events did.index
       → StandsInStage g (words_before M mix env events) (stage_of job) steps did.old → CameToEnter g job steps → Going job steps
       → Leads job (steps ++ did ∷ []) (job_after mix env job did.old)
-  goes job steps did performs own here giving came (inl past) = past-leads (steps ++ did ∷ []) job did performs past
-  goes job steps did performs own here giving came (inr (inl says)) =
+  goes job steps did performs rests own here giving came (inl past) = past-leads (steps ++ did ∷ []) job did performs past
+  goes job steps did performs rests own here giving came (inr (inl says)) =
       change-leads (steps ++ did ∷ []) job (job_after mix env job did.old)
       (change_stays env.config.kind performs.caller (call_of job) _ _ _ _ (held_of job).answer
       (held_next (job_after mix env job did.old)).answer performs.step.says says)
-  goes job steps did performs own here giving came (inr (inr kept)) = by_case (is_past job) refl
+  goes job steps did performs rests own here giving came (inr (inr kept)) = by_case (is_past job) refl
     where
       by_case : (t : Bool) → is_past job ≡ t → Leads job (steps ++ did ∷ []) (job_after mix env job did.old)
       by_case true past = past-leads (steps ++ did ∷ []) job did performs past
-      by_case false may = leads_on job steps did may kept performs own here giving came
+      by_case false may = leads_on job steps did may kept performs rests own here giving came
 
   first-stored : (call : Call) (batch : Option BatchModel) (start : ℕ) → IfSome (first_job env batch call start) (λ job. JobStored env job [])
   first-stored Tidy batch start = first_tidy-so (λ job. JobStored env job []) batch (λ own. tt)
@@ -581,7 +581,7 @@ refused M mix env events c admitted =
     (record {
       begins = begins M mix env events c;
       goes = λ job steps did performs own stands saw kept.
-          goes M mix env events c job steps did performs own stands.now stands.giving
+          goes M mix env events c job steps did performs stands.rests own stands.now stands.giving
           (saw-came env c (words_before M mix env events) mix job steps saw) kept;
     }) admitted)
     (at_events M mix env events admitted c).past

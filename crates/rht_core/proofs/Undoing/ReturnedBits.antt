@@ -1,5 +1,6 @@
 -- While a resizing gives retired tables back it has turned each bit an even number of times, but for that of the work lock, and but for one
 -- operation by which it gives back what the bit says.
+use Rattle.std.specs.Prelude.{false}
 use Rattle.std.proofs.Common.{◌≡◌, ◌≢◌, ℕ, ◌+◌, ◌%◌, ◌<◌, true, List, [], ◌∷◌, ◌++◌, Option, Some, None, refl, sym, ap, ◌∙◌, subst, inl, inr, arith}
 use Rattle.rht_words.specs.declared.env.Env.{Env}
 use Rattle.rht_words.specs.declared.geometry.Geometry.{Geometry}
@@ -14,7 +15,7 @@ use Rattle.rht_core.specs.Jobs.{Job, job_plan, held_of}
 use Rattle.rht_core.specs.Traces.{Did}
 use Rattle.rht_core.specs.Refused.{turned}
 use Rattle.rht_ghost.proofs.Theory.Steps.{mem}
-use Rattle.rht_core.proofs.Tracing.TracedJobs.{Performs}
+use Rattle.rht_core.proofs.Tracing.TracedJobs.{hard_rests, Performs}
 use Rattle.rht_core.proofs.Undoing.TurnedBits.{turned-none, turned-one, sets_lowest, work_bit}
 use Rattle.rht_core.proofs.Undoing.WorkStages.{Stage, AtLock, Asks, Loads, Gives, Opens, Behind, stage_of, GoesTo, takes_lock, refused, opened, stays, asks_on, to_shape, asked_all, loaded, gives_on, freed, freed_last, gives_job, loads_job, asks_load, lock_job, is_returning}
 use Rattle.rht_core.proofs.Undoing.TablesThen.{StandsInStage}
@@ -45,7 +46,7 @@ comes_held : (turned held : ℕ) → turned ≡ held → (turned + 0 + held) % 2
 comes_held turned held is = omega (arith, is)
 
 module _ (mix : ℕ → ℕ → ℕ → ℕ) (env : Env) (words_at : ℕ → List ℕ) (job : Job) (steps : List Did) (did : Did)
-    (performs : Performs mix env job did) where
+    (performs : Performs mix env job did) (rests : performs.over ≡ false) where
   abbrev g : Geometry
   g = env.geometry
 
@@ -76,13 +77,13 @@ module _ (mix : ℕ → ℕ → ℕ → ℕ) (env : Env) (words_at : ℕ → Lis
 
   asks_so : stage_of job ≡ Asks → SoFar None steps → SoFar None all
   asks_so is =
-      let loads = asks_load env performs.caller job is in load_so None None more_none loads.0 (performs.planned ∙ loads.1)
+      let loads = asks_load env performs.caller job is in load_so None None more_none loads.0 (hard_rests mix env performs rests ∙ loads.1)
 
   -- one that takes the lock
   pub takes_so : stage_of job ≡ AtLock → did.old ≡ 0 → steps ≡ [] → SoFar None all
   takes_so is free none place bit low =
       let there = place_of g WorkLock in
-      let op : did.op ≡ Exchange there 0 1 = performs.planned ∙ ap (job_plan env performs.caller) (lock_job job is) in
+      let op : did.op ≡ Exchange there 0 1 = hard_rests mix env performs rests ∙ ap (job_plan env performs.caller) (lock_job job is) in
       balanced-push g words_at Work None None place bit steps did 0 (more_none place bit) (work_bit g true place bit)
       (comes_held _ _ (turned-one there 0 place bit did low
       (sets_lowest there did (ap op_place op) (ap (λ w. w % 2) free)
@@ -103,7 +104,7 @@ module _ (mix : ℕ → ℕ → ℕ → ℕ) (env : Env) (words_at : ℕ → Lis
       performs.found state other (giving_within env mix c job slot state giving performs.within).at_in stands.has
       (giving_knows env mix c M performs.ghost job slot state giving performs.knows)
       (giving_makes env mix c M performs.ghost job slot state giving performs.knows)
-      (performs.planned ∙ giving_plan env mix c job slot state giving performs.within) place bit low) [
+      (hard_rests mix env performs rests ∙ giving_plan env mix c job slot state giving performs.within) place bit low) [
         | inl none ↦
             balanced-push g words_at Work (Some slot) (Some slot) place bit steps did held more held (left_held _ held none) so
         | inr returns ↦
@@ -121,7 +122,7 @@ module _ (mix : ℕ → ℕ → ℕ → ℕ) (env : Env) (words_at : ℕ → Lis
       let frees =
       frees_slot env mix c (held_of job) performs.words performs.ghost performs.all performs.whole words_at slot steps did performs.found
       (giving_makes env mix c M performs.ghost job slot gives.FreeSlot giving performs.knows)
-      (performs.planned ∙ giving_plan env mix c job slot gives.FreeSlot giving performs.within) in
+      (hard_rests mix env performs rests ∙ giving_plan env mix c job slot gives.FreeSlot giving performs.within) in
       let more = returned-freed g words_at slot place bit steps did frees in
       let so = so_far place bit low in
       elim (slot_or_leaves env mix c (held_of job) performs.words performs.ghost performs.all performs.whole words_at slot steps did
@@ -145,7 +146,7 @@ module _ (mix : ℕ → ℕ → ℕ → ℕ) (env : Env) (words_at : ℕ → Lis
   returns_goes _ _ (loaded slot) is in_it stands so_far =
       let giving = loads_job job slot is in
       load_so None (Some slot) (λ place bit has. returned-begun g words_at slot place bit steps did has) _
-      (performs.planned ∙ giving_plan env mix performs.caller job slot gives.Shape giving performs.within) so_far
+      (hard_rests mix env performs rests ∙ giving_plan env mix performs.caller job slot gives.Shape giving performs.within) so_far
   returns_goes _ _ (gives_on slot state other) is in_it stands so_far = gives_so slot state is other stands so_far
   returns_goes _ _ (freed slot) is in_it stands so_far = frees_so slot is so_far
   returns_goes _ _ (freed_last slot) is in_it stands so_far = frees_so slot is so_far

@@ -5,6 +5,7 @@
 use Rattle.std.proofs.Common.{◌≡◌, ℕ, ◌+◌, ◌*◌, ◌/◌, ◌%◌, ◌<◌, cond, true, List, Option, Some, None, refl, sym, ap, ◌∙◌, subst, inl, inr, arith}
 use Rattle.std.proofs.lemmas.Bool.{cases_eq}
 use Rattle.rht_words.specs.declared.env.Env.{Env}
+use Rattle.rht_ghost.proofs.Pieces.HeldSections.{of_its_own}
 use Rattle.rht_words.specs.declared.geometry.Geometry.{Geometry}
 use Rattle.rht_words.specs.declared.op.Op.{Op}
 use Rattle.rht_words.specs.Links.{page_of}
@@ -132,8 +133,9 @@ module _ (env : Env) (mix : ℕ → ℕ → ℕ → ℕ) where
         → (index bits : ℕ) → of.step.move ≡ TakesBack slot index bits → ⊥
     spared d op of plans none index bits is = elim (cases_eq d c) [
       | inl same ↦
-          let next = held_next (job_after mix env of.job (old_of core.words op)) in
-          let does = subst (λ move. Does env mix move op (old_of core.words op) (held_of of.job) next) is of.step.does in
+          let over = (local_of core d).held in
+          let next = of_its_own over (held_next (job_after mix env of.job (old_of core.words op))) in
+          let does = subst (λ move. Does env mix move op (old_of core.words op) (of_its_own over (held_of of.job)) next) is of.step.does in
           let has : next.slot ≡ Some slot = ap (λ (x : Holding). x.slot) does.holds in
           let not_so = none op of.job (ap Step same) (subst (λ k. planned_in core k ≡ Some op) same plans)
           (subst (λ k. job_of (local_of core k).doing ≡ Some of.job) same of.is) in

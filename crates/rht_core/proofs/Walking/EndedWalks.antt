@@ -1,5 +1,6 @@
 -- A walk that ends has walked as it answers; and what a walk that has ended did it still did behind an event.
-use Rattle.std.proofs.Common.{◌≡◌, ℕ, ◌+◌, ◌<◌, ◌≤◌, nat_lt, true, false, List, [], ◌∷◌, ◌++◌, length, Option, Some, refl, sym, ◌∙◌, ap, subst, arith}
+use Rattle.rht_callers.specs.Locals.{soft}
+use Rattle.std.proofs.Common.{◌≡◌, ℕ, ◌+◌, ◌<◌, ◌≤◌, nat_lt, Bool, true, false, List, [], ◌∷◌, ◌++◌, length, Option, Some, refl, sym, ◌∙◌, ap, subst, arith}
 use Rattle.std.specs.Prelude.{IfSome}
 use Rattle.std.specs.List.{AllByRecursion}
 use Rattle.std.proofs.lemmas.Bool.{cond_both}
@@ -270,7 +271,7 @@ module _ (L : Type 0) (mix : ℕ → ℕ → ℕ → ℕ) (env : Env) (events : 
       now = tt;
     }
 
-    pub own_walks : (job : Job) → did.op ≡ job_plan env c job → did.old ≡ old_of (R L mix env events).world.core.words (job_plan env c job)
+    pub own_walks : (over : Bool) (job : Job) → did.op ≡ soft over (job_plan env c job) → did.old ≡ old_of (R L mix env events).world.core.words (job_plan env c job)
         → job_of (local_of (R L mix env events).world.core c).doing ≡ Some job → JobIn env mix c job
         → AllByRecursion (PastWalks L mix env events looking.placed.ghost count) trace.past
         → JobWalks L mix env events (R L mix env events).world.core looking.placed count (looking.readers c).chains c trace.begin loaded
@@ -278,20 +279,22 @@ module _ (L : Type 0) (mix : ℕ → ℕ → ℕ → ℕ) (env : Env) (events : 
         → let after = job_after mix env job (old_of (R L mix env events).world.core.words (job_plan env c job)) in
         job_of (local_of (world_step mix (R L mix env events).world event).core c).doing ≡ (told after).0
         → WalksThen c (trace_then job after) (told after).0
-    own_walks (walks from limit room state) planned found is within had walking does =
+    own_walks over (walks from limit room state) planned found is within had walking does =
         let tied = subst (tied_with env mix looking.placed.ghost) is (looking.meets c walking.low).tied in
         let word = old_of (R L mix env events).world.core.words (plan_at env.geometry c state) in
         let after = room_after state room word in
         let came = walk_gone env from limit room after state word in
         let Goes = λ (more : List ℕ). Walks L mix env all_events (world_step mix (R L mix env events).world event).core placed_then counts
         (turn.then c) c from trace.begin more after came.0 in
-        let same = ap (loaded_after state loaded) (sym found) ∙ loaded_next env.geometry c trace.steps did state within planned in
+        let same = ap (loaded_after state loaded) (sym found) ∙
+        loaded_next env.geometry c trace.steps did over (let low = walking.low in let callers = env.geometry.within.callers_within in omega (arith, low, callers.1))
+        state within planned in
         walk_then from limit room state word came walking same
         (λ still. subst Goes same
         (goes_on L mix env events event looking turn of_ports count counted c walking.low from trace.begin walking.begun limit loaded room
         state walking within tied is (room_limit state room word ∙ walking.roomy)
         (does ∙ ap (λ ended. (told (job_next (walks from limit after) (walk_ending after) (came.0, ended))).0) still))) refl had
-    own_walks job planned found is within had walking does =
+    own_walks over job planned found is within had walking does =
         let old = old_of (R L mix env events).world.core.words (job_plan env c job) in
         other_then job (job_after mix env job old) refl (same_call mix env job old) had
 

@@ -1,5 +1,7 @@
 -- In every run each walk knows, in each of its states, what it needs for what it answers. It is an induction over the events, beside that
 -- of look-ups, on the same ghost and the same places.
+use Rattle.rht_core.specs.Jobs.{job_plan}
+use Rattle.rht_core.proofs.Machines.HeldSteps.{soft-old}
 use Rattle.std.proofs.Common.{◌≡◌, ℕ, ◌<◌, List, [], ◌∷◌, ◌++◌, length, Option, Some, None, refl, sym, ◌∙◌, ap, subst, inl, inr, arith}
 use Rattle.std.proofs.lemmas.Bool.{cases_eq}
 use Rattle.rht_words.specs.declared.op.Op.{Op}
@@ -141,6 +143,8 @@ module _ (L : Type 0) (mix : ℕ → ℕ → ℕ → ℕ) (env : Env) where
       let did : Did = record { index = r.count; op = op; old = old } in
       let does : job_of (local_of (world_step mix r.world (Step c)).core c).doing ≡ (told (job_after mix env of.job old)).0 =
       ap (λ (s : View L). job_of s.local.doing) (step_self L mix r.world c op is place) ∙ ap (λ l. l.0) left in
+      let found : old_of core.words op ≡ old_of core.words (job_plan env c of.job) =
+      ap (old_of core.words) of.plan ∙ soft-old local.held (job_plan env c of.job) core.words in
       elim (cases_eq d c) [
         | inl same ↦
             subst (λ k. Then events (Step c) walking turn k (traces_after mix r (Step c) k)
@@ -154,14 +158,14 @@ module _ (L : Type 0) (mix : ℕ → ℕ → ℕ → ℕ) (env : Env) where
             ∙ ap (λ l. trace_did (Some (call_of of.job)) did l.1 (r.traces c)) left)
             does
             (subst (λ o. Then events (Step c) walking turn c
-            (trace_did (Some (call_of of.job)) did (told (job_after mix env of.job (old_of core.words o))).1 (r.traces c))
-            (told (job_after mix env of.job (old_of core.words o))).0) (sym of.plan)
+            (trace_did (Some (call_of of.job)) did (told (job_after mix env of.job o)).1 (r.traces c))
+            (told (job_after mix env of.job o)).0) (sym found)
             (own_walks L mix env events (Step c) walking.looking turn walking.of_ports walking.count walking.counted c (r.traces c) did
-            (count-traced_of L mix env events) of.job of.plan (ap (old_of core.words) of.plan) of.is of.within (walking.walks c).past
+            (count-traced_of L mix env events) local.held of.job of.plan found of.is of.within (walking.walks c).past
             (subst (JobWalks L mix env events core placed walking.count (walking.looking.readers c).chains c (r.traces c).begin
             (owners_loaded env.geometry (r.traces c).steps))
             of.is (walking.walks c).now)
-            (does ∙ ap (λ o. (told (job_after mix env of.job (old_of core.words o))).0) of.plan))))
+            (does ∙ ap (λ o. (told (job_after mix env of.job o)).0) found))))
         | inr other ↦
             as_before events (Step c) walking turn d
             (ap (λ (s : View L). job_of s.local.doing) (step_other L mix r.world c d other))

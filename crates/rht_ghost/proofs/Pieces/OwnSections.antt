@@ -10,12 +10,16 @@ use Rattle.rht_words.proofs.Memory.{Memory, IsWrite, is_write}
 use Rattle.rht_ghost.proofs.Theory.Ghosts.{Ghost, IsSince, put-same, table_at, with_from, none-some}
 use Rattle.rht_ghost.proofs.Theory.Wholes.{IsTurned, Whole}
 use Rattle.rht_ghost.proofs.Theory.Knowns.{Known, Nowhere}
-use Rattle.rht_ghost.proofs.Theory.Knowledge.{Knowing, ReadsFrom, outside-none, inside-some, TableMeans}
+use Rattle.rht_ghost.proofs.Theory.Knowledge.{Knowing, ReadsFrom, inside-some, TableMeans}
 use Rattle.rht_ghost.proofs.Theory.KnowledgeKept.{Means-rely, Only-rely}
 use Rattle.rht_ghost.proofs.Theory.Steps.{Opens, Closes, Holding, mem, SilentStep, silent}
 use Rattle.rht_ghost.proofs.Moves.Sections.{IsTurn, turn_section, turn_rely}
 use Rattle.rht_ghost.proofs.Theory.Reliance.{Rely}
 use Rattle.rht_ghost.proofs.Theory.Frames.{Made}
+
+-- where an operation opens the caller's section none is open, not even over its calls
+abbrev pub OpensNone : Env → ℕ → Ghost → Op → Holding → Type 0
+OpensNone env c G op h = op ≡ Add (place_of env.geometry (Section c)) 1 → h.section ≡ false → G.from c ≡ None
 
 module _ (env : Env) (mix : ℕ → ℕ → ℕ → ℕ) (c : ℕ) (h : Holding) (known : Known) (nowhere : known.table ≡ Nowhere) where
   -- what the call holds in its section, or out of it, and what the caller knows then
@@ -88,10 +92,10 @@ module _ (env : Env) (mix : ℕ → ℕ → ℕ → ℕ) (c : ℕ) (h : Holding)
       locked = λ j holds. absurd (none j holds);
     }
 
-    pub open_step : knowing false M G
+    -- none is open yet, not even over its caller's calls
+    pub open_step : G.from c ≡ None → knowing false M G
         → SilentStep env mix c words G turning (holding false) (holding true) (knowing true)
-    open_step knows =
-        let none = outside-none (G.from c) G.current knows.only.reads in
+    open_step none knows =
         let is = opened none in
         silent env mix c words G turning (holding false) (holding true) (knowing true) (Opens c) whole
         (refl, none) tt (turned false true (Some G.current) (omega arith) is)
@@ -112,4 +116,39 @@ module _ (env : Env) (mix : ℕ → ℕ → ℕ → ℕ) (c : ℕ) (h : Holding)
         unlocked j holds = elim (knows.only.locks j holds) [
           | inl first ↦ none-some no_lock first
           | inr second ↦ none-some no_second second
+        ]
+
+    -- ---- a section that its caller holds open over its calls
+
+    -- what is so of the whole and of others behind the turning, and what the caller knows then, of whose calls none has opened it
+    pub record HasTurned (from : Option ℕ) : Type 0 where
+      pub made : Made env mix c M G M' (with_from G c from)
+      pub own : Rely env mix c M G M' (with_from G c from)
+      pub knows : knowing false M' (with_from G c from)
+
+    -- it is opened between calls
+    pub enter_turns : G.from c ≡ None → knowing false M G → HasTurned (Some G.current)
+    enter_turns none knows =
+        let is = opened none in
+        let from : Option ℕ = Some G.current in
+        record {
+          made = turned false false from (omega arith) is;
+          own = rely false false from (omega arith) is;
+          knows = known_then false false from (omega arith) is knows;
+        }
+
+    -- and closed between calls, where no bucket is locked
+    pub leave_turns : (first : ℕ) → G.from c ≡ Some first → h.lock ≡ None → h.second ≡ None → knowing false M G → HasTurned None
+    leave_turns first over no_lock no_second knows =
+        let is = closed first over unlocked in
+        record {
+          made = turned false false None tt is;
+          own = rely false false None tt is;
+          knows = known_then false false None tt is knows;
+        }
+      where
+        unlocked : (j : ℕ) → (G.bucket j).holder ≢ Some c
+        unlocked j holds = elim (knows.only.locks j holds) [
+          | inl one ↦ none-some no_lock one
+          | inr other ↦ none-some no_second other
         ]

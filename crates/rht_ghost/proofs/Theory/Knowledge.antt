@@ -27,24 +27,38 @@ pub since-later : (from : Option ℕ) (τ σ : ℕ) → τ ≤ σ → IsSince fr
 since-later None τ σ more since = since
 since-later (Some low) τ σ more since = omega (arith, since, more)
 
--- in its section a caller may come to the tables from the one on that was current when it was opened, and out of it to none
+-- in its section a caller may come to the tables from the one on that was current when it was opened; a call that has opened none comes to
+-- none, unless its caller holds one open over its calls
 abbrev pub ReadsFrom : Bool → Option ℕ → ℕ → Type 0
 ReadsFrom false None current = Unit {0}
-ReadsFrom false (Some low) current = ⊥
 ReadsFrom true None current = ⊥
-ReadsFrom true (Some low) current = low ≤ current
+ReadsFrom _ (Some low) current = low ≤ current
 
 pub ReadsFrom-later : (section : Bool) (from : Option ℕ) (current later : ℕ) → current ≤ later → ReadsFrom section from current
     → ReadsFrom section from later
 ReadsFrom-later false None current later more is = tt
-ReadsFrom-later false (Some low) current later more is = is
 ReadsFrom-later true None current later more is = is
-ReadsFrom-later true (Some low) current later more is = omega (arith, is, more)
+ReadsFrom-later _ (Some low) current later more is = omega (arith, is, more)
+
+-- a section is open, or none is
+abbrev pub IsOpenAs : Bool → Option ℕ → Type 0
+IsOpenAs false None = Unit {0}
+IsOpenAs true (Some low) = Unit {0}
+IsOpenAs _ _ = ⊥
 
 -- out of it there is none
-pub outside-none : (from : Option ℕ) (current : ℕ) → ReadsFrom false from current → from ≡ None
-outside-none None current reads = refl
-outside-none (Some low) current reads = absurd reads
+pub outside-none : (from : Option ℕ) → IsOpenAs false from → from ≡ None
+outside-none None is = refl
+outside-none (Some low) is = absurd is
+
+-- what is open is so in a call that hasn't opened it, and in one that has
+pub reads-turned : (was now : Bool) (from : Option ℕ) (current : ℕ) → IsOpenAs true from → ReadsFrom was from current
+    → ReadsFrom now from current
+reads-turned was now None current is reads = absurd is
+reads-turned false false (Some low) current is reads = reads
+reads-turned false true (Some low) current is reads = reads
+reads-turned true false (Some low) current is reads = reads
+reads-turned true true (Some low) current is reads = reads
 
 -- in it there is one
 pub inside-some : (from : Option ℕ) (current : ℕ) → ReadsFrom true from current → (first : ℕ) × (from ≡ Some first)
