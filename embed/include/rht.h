@@ -205,12 +205,17 @@ uint32_t rht_bind_begin(rht_handle *handle, rht_port port, uint32_t owner, rht_r
 /* Binds a port, and is tried once alone: also RHT_AGAIN. */
 uint32_t rht_bind_once_begin(rht_handle *handle, rht_port port, uint32_t owner, rht_reply *reply);
 
+/* These two in one go: all operations of the bind, as long as it need not wait. Where another handle holds a bucket's
+ * lock it looks so many rounds for it, and then leaves off: RHT_NOT_YET, from which rht_go_on goes on. With rounds 0
+ * it leaves off before each lock. It does so too before a table's part that is seldom there, and once it has found
+ * that it wants a further table. */
+uint32_t rht_bind_in(rht_handle *handle, rht_port port, uint32_t owner, uint32_t rounds, rht_reply *reply);
+uint32_t rht_bind_once_in(rht_handle *handle, rht_port port, uint32_t owner, uint32_t rounds, rht_reply *reply);
+
 /* Takes one binding of the port to the owner out: RHT_RELEASED, RHT_ABSENT. */
 uint32_t rht_release_begin(rht_handle *handle, rht_port port, uint32_t owner, rht_reply *reply);
 
-/* The same in one go: all its operations, as long as it need not wait. Where another handle holds a bucket's lock it
- * looks so many rounds for it, and then leaves off: RHT_NOT_YET, from which rht_go_on goes on. With rounds 0 it leaves
- * off before each lock. It does so too before a table's part that is seldom there. */
+/* The same in one go, as rht_bind_in. */
 uint32_t rht_release_in(rht_handle *handle, rht_port port, uint32_t owner, uint32_t rounds, rht_reply *reply);
 
 /* Puts a new owner in the place of the port's first owner that is this one: RHT_REBOUND, RHT_ABSENT, RHT_NO_NODE. */
@@ -264,12 +269,12 @@ static inline uint32_t rht_finish(rht_handle *handle, uint32_t code, rht_reply *
 
 static inline uint32_t rht_bind(rht_handle *handle, rht_port port, uint32_t owner, rht_reply *reply)
 {
-    return rht_finish(handle, rht_bind_begin(handle, port, owner, reply), reply);
+    return rht_finish(handle, rht_bind_in(handle, port, owner, RHT_ROUNDS, reply), reply);
 }
 
 static inline uint32_t rht_bind_once(rht_handle *handle, rht_port port, uint32_t owner, rht_reply *reply)
 {
-    return rht_finish(handle, rht_bind_once_begin(handle, port, owner, reply), reply);
+    return rht_finish(handle, rht_bind_once_in(handle, port, owner, RHT_ROUNDS, reply), reply);
 }
 
 static inline uint32_t rht_release(rht_handle *handle, rht_port port, uint32_t owner, rht_reply *reply)

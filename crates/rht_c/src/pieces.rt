@@ -50,6 +50,50 @@ pub extern "C" fn rht_bind_once_begin(
     told(handle.begin(call), reply)
 }
 
+/// Binds a port in one go, as `Table::bind` does, with so many rounds at most at the lock of a bucket.
+#[unsafe(no_mangle)]
+pub extern "C" fn rht_bind_in(
+    handle: &mut Handle,
+    port: CPort,
+    owner: u32,
+    rounds: u32,
+    reply: &mut CReply,
+) -> u32
+    requires { IsFitHandle handle.old }
+    ensures fit { IsFitHandle handle.new }
+    ensures set_out { HasSetOut (Bind (port_said port) owner false) handle.old reply.old result reply.new handle.new }
+{
+    let once = false;
+    let call = Call::Bind {
+        port: port.port(),
+        owner,
+        once,
+    };
+    told(handle.set_out(call, rounds), reply)
+}
+
+/// Binds a port once in one go, as `Table::bind_once` does, with so many rounds at most at the lock of a bucket.
+#[unsafe(no_mangle)]
+pub extern "C" fn rht_bind_once_in(
+    handle: &mut Handle,
+    port: CPort,
+    owner: u32,
+    rounds: u32,
+    reply: &mut CReply,
+) -> u32
+    requires { IsFitHandle handle.old }
+    ensures fit { IsFitHandle handle.new }
+    ensures set_out { HasSetOut (Bind (port_said port) owner true) handle.old reply.old result reply.new handle.new }
+{
+    let once = true;
+    let call = Call::Bind {
+        port: port.port(),
+        owner,
+        once,
+    };
+    told(handle.set_out(call, rounds), reply)
+}
+
 /// Begins to take a binding out, as `Table::release` does.
 #[unsafe(no_mangle)]
 pub extern "C" fn rht_release_begin(

@@ -1,20 +1,16 @@
 -- From one operation to a call: an operation ends the call exactly where it has a reply, and a finished call has a reply of its
 -- kind with the lists that come with it.
-use Rattle.std.proofs.Common.{◌≡◌, ℕ, ◌+◌, ◌^◌, ◌<◌, true, cond, List, [], ◌∷◌, ◌++◌, refl, sym, ap, ◌∙◌, subst}
+use Rattle.std.proofs.Common.{◌≡◌, ℕ, ◌+◌, true, cond, List, [], ◌∷◌, ◌++◌, refl, sym, ap, ◌∙◌, subst}
 use Rattle.std.specs.Prelude.{Option, Some, None}
 use Rattle.std.specs.List.{AllByRecursion, last_or}
 use Rattle.atomic_table.specs.declared.shared.Seat.{Seat}
-use Rattle.rht_words.specs.declared.env.Env.{Env}
-use Rattle.rht_words.specs.Ports.{IsPort}
-use Rattle.rht_release.specs.Rebind.{rebind_new}
 use Rattle.rht_model.specs.declared.history.Call.{Call}
-use Rattle.rht_model.specs.declared.history.Call.TheVariants.{Rebind}
 use Rattle.rht_model.specs.declared.history.Reply.{Reply}
 use Rattle.rht_model.specs.declared.history.Reply.TheVariants.{Found, Missing}
 use Rattle.rht_model.specs.declared.finished.Finished.{Finished}
 use Rattle.rht_core.specs.declared.book.Book.{Book}
 use Rattle.rht_callers.specs.declared.local.Local.{Local}
-use Rattle.rht_callers.specs.declared.local.Doing.TheVariants.{Idle, Rebinding}
+use Rattle.rht_callers.specs.declared.local.Doing.TheVariants.{Idle}
 use Rattle.rht_core.specs.Locals.{is_idle, local_after, ending_of}
 use Rattle.rht_core.specs.Runs.{View, book_after}
 use Rattle.rht_core.specs.Replies.{IsRightlyAnswered, IsFindReply, AnswersIn, owners_with, pairs_with}
@@ -22,7 +18,7 @@ use Rattle.rht_core.proofs.Events.BusyCallers.{goes_on, ends}
 use Rattle.rht_core.proofs.Tracing.RepliesInRuns.{replies}
 use Rattle.rht_run.specs.declared.table.Table.{Table}
 use Rattle.rht_run.specs.declared.pass.Pass.{Pass}
-use Rattle.rht_run.specs.Rule.{MayBegin, CanGo, book_then, local_then}
+use Rattle.rht_run.specs.Rule.{CanGo, book_then, local_then}
 use Rattle.rht_run.specs.declared.seats.SeatView.{SeatView}
 use Rattle.rht_run.specs.Passes.{IsPassOf, IsSamePass, HasGone, HasCalled, Turned, book_of}
 use Rattle.rht_run.specs.Rides.{Riding, riding_pass, handed, HasEndedWith, looked_up, owner_in}

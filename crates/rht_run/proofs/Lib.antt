@@ -18,6 +18,7 @@ pub mod CallCauses
 pub mod LookupCalls
 -- what a tidying makes of its pass's batch
 pub mod PassTidyings
+pub mod TidyRides
 -- why a tidying and a walk end
 pub mod ShortCalls
 -- the calls of a command

@@ -1,5 +1,5 @@
 -- The states of the machines that hold a piece: what the caller does while the piece runs, and once it has answered.
-use Rattle.std.specs.Prelude.{◌≡◌, ℕ, Bool, refl, Option, Some, None}
+use Rattle.std.specs.Prelude.{◌≡◌, ℕ, Bool, refl, Option, Some, None, Result}
 use Rattle.rht_words.specs.declared.env.Env.{Env}
 use Rattle.rht_words.specs.declared.machine.Next.{Next}
 use Rattle.rht_words.specs.declared.machine.Next.TheVariants.{Go, Done}
@@ -28,7 +28,7 @@ use Rattle.rht_callers.specs.declared.local.Doing.{Doing}
 use Rattle.rht_callers.specs.declared.local.Doing.TheVariants.{Binding, Finding}
 use Rattle.rht_run.specs.declared.pieces.PortLocate.{PortLocate}
 use Rattle.rht_run.specs.declared.pieces.PortLocated.{PortLocated}
-use Rattle.rht_run.specs.Rides.{piece_next, replied}
+use Rattle.rht_run.specs.Rides.{piece_next, come_to, replied}
 use Rattle.rht_run.specs.Pieces.{locate_told, locked_of, probe_told, probe_locks, probe_locked}
 
 -- it holds a bucket into which its node doesn't go, for this reason, and unlocks it next
@@ -65,6 +65,10 @@ module _ {M : Type 0} where
   abbrev pub bind_at : Env → ℕ → ℕ → ℕ → Bool → BindAt → Doing M
   bind_at env caller port owner once at =
       Binding (record { env = env; caller = caller; port = port; owner = owner; once = once; at = at })
+
+  -- and in straight code it has come to this reply, or was left here
+  abbrev pub bind_came : Env → ℕ → ℕ → ℕ → Bool → Result Reply BindAt → Doing M × Option (Reply × Option ℕ)
+  bind_came env caller port owner once came = come_to (λ at. bind_at env caller port owner once at) replied came
 
   -- and has taken this node, or found none
   abbrev pub bind_filled : Env → ℕ → ℕ → ℕ → Bool → Option ℕ → Doing M × Option (Reply × Option ℕ)

@@ -1,54 +1,61 @@
 //! The bind of a port, in straight code. What is seldom isn't: where the node doesn't go into the last
-//! table, the machine runs on as a whole.
+//! table, or the table is a nested one, the bind is left, and goes on as a machine.
 
-ghost use Rattle.std.specs.Prelude.{◌≡◌};
+ghost use Rattle.std.specs.Prelude.{◌≡◌, ◌<◌};
 ghost use Rattle.rht_model.specs.declared.history.Call.TheVariants.{Bind as BindCall};
-ghost use Rattle.rht_bind.specs.Bind.{plan_at, first_attempt, replacing};
+ghost use Rattle.rht_words.specs.Ports.{word_of};
+ghost use Rattle.rht_arena.specs.NewNode.{new_node_new};
+ghost use Rattle.rht_nest.specs.Locate.{locate_new};
+ghost use Rattle.rht_bind.specs.Bind.{plan_at, first_attempt, replacing, IsBindAtIn};
 ghost use Rattle.rht_bind.specs.Endings.{answering};
-ghost use Rattle.rht_bind.specs.declared.bind.BindAt.TheVariants.{Locating, ListLink, Closing};
+ghost use Rattle.rht_bind.specs.declared.bind.BindAt.TheVariants.{Filling, Locating, ListLink, Closing};
 ghost use Rattle.rht_bind.specs.declared.bind.ending.Ending.TheVariants.{Bound};
 ghost use Rattle.rht_run.specs.Pieces.{nested_locate};
 ghost use Rattle.rht_run.specs.Layout.{physical_place};
 ghost use Rattle.rht_run.specs.Rides.{IsBefore, IsRiding, HasEnded, Stepped, driven};
-ghost use Rattle.rht_run.specs.PieceFrames.{bind_at, full_at};
+ghost use Rattle.rht_run.specs.PieceFrames.{bind_at, bind_came, full_at};
 
 use crate::layout::section;
 use crate::locating::{Way, nested_locate};
 use crate::pieces::{BindFilling, BindLocating, BindProbing, Whole};
-use crate::ride::{Ride, never};
+use crate::ride::Ride;
 use crate::seats::SeatView;
 use crate::table::Table;
 use atomic_table::Seat;
+use rht_arena::{NewNode, NewNodeAt};
 use rht_bind::{
-    Attempt, Bind, BindAt, Claimed, Ending, FoundList, Full, answering, giving, kicks, publishing,
-    unlocking, unlocking_full,
+    Attempt, Bind, BindAt, Claimed, Ending, FoundList, Full, Growing, answering, giving, kicks,
+    publishing, unlocking, unlocking_full,
 };
 use rht_chain::{Locked, Relink, Then};
+use rht_core::{Doing, Local};
 use rht_model::Reply;
+use rht_nest::Locate;
 use rht_policy::{Mix, above_100, above_max};
 use rht_words::{Env, Kind, Port, Shape, link_of, owner_of, slot_of, table_of, word_of};
-use std::sync::Wait;
 
 /// A chain of so many nodes takes no further one. It is the number of `rht_bind`: by another one the
 /// clause of the bind below isn't proved.
 const FULL_CHAIN: u32 = 16;
 
 impl<M: Mix> Table<M> {
-    /// Binds the port, from the first operation to the reply.
-    #[inline(always)]
-    pub(crate) fn drive_bind<R: Wait, K: Ride>(
+    /// Binds the port, from the first operation on. It answers the reply; or where the bind was left: at the
+    /// lock of a bucket that it didn't have in so many rounds, before the entries of a nested table, or once
+    /// it has unlocked a bucket into which its node doesn't go.
+    #[inline(never)]
+    pub(crate) fn drive_bind<K: Ride>(
         &self,
-        rt: &R,
         seat: &mut Seat<(), SeatView<M>>,
         number: u32,
         port: Port,
         owner: u32,
         once: bool,
-    ) -> Reply
+        rounds: u64,
+    ) -> Result<Reply, BindAt>
         requires before { IsBefore M.mix_of self.now K.riding seat.old }
         requires number { K.riding.number ≡ number }
         requires call { K.riding.call ≡ BindCall port owner once }
-        ensures { HasEnded M.mix_of self.now K.riding result seat.new }
+        ensures { Stepped M.mix_of self.now K.riding (bind_came self.now.env number port owner once result) seat.new }
     {
         let env = self.env;
         let frame = BindFilling {
@@ -60,12 +67,12 @@ impl<M: Mix> Table<M> {
         };
         let starts = self.starts();
         let begun = self.begin_with_node::<K, BindFilling>(seat, &frame, starts, port, owner);
-        let Some(taken) = begun else {
-            never(rt);
-            unreachable!()
+        let taken = match begun {
+            Ok(taken) => taken,
+            Err(at) => return self.bind_filling::<K>(seat, number, port, owner, once, at),
         };
         let Some(node) = taken else {
-            return Reply::NoNode;
+            return Ok(Reply::NoNode);
         };
         let attempt = Attempt {
             node,
@@ -87,8 +94,8 @@ impl<M: Mix> Table<M> {
             let (shape, place) = match way {
                 Way::Flat { shape, place } => (shape, place),
                 Way::Nested { shape, bucket } => {
-                    return self.bind_nested::<R, K>(
-                        rt, seat, number, port, owner, once, node, table, shape, bucket,
+                    return self.bind_nested::<K>(
+                        seat, number, port, owner, once, node, table, shape, bucket,
                     );
                 }
             };
@@ -103,11 +110,17 @@ impl<M: Mix> Table<M> {
                 shape,
             };
             let key = word_of(port);
-            let rounds = u64::MAX;
-            let Ok(probed) = self.probe::<K, BindProbing>(seat, &frame, starts, place, key, rounds)
-            else {
-                never(rt);
-                unreachable!()
+            let came = self.probe::<K, BindProbing>(seat, &frame, starts, place, key, rounds);
+            let probed = match came {
+                Ok(probed) => probed,
+                Err(probe) => {
+                    return Err(BindAt::Probing {
+                        attempt,
+                        table,
+                        shape,
+                        probe,
+                    });
+                }
             };
             let bucket = probed.bucket;
             let claimed = Claimed {
@@ -124,7 +137,7 @@ impl<M: Mix> Table<M> {
                         first,
                         before,
                     };
-                    return self.bind_in_front::<K>(seat, env, number, port, owner, once, list);
+                    return Ok(self.bind_in_front::<K>(seat, env, number, port, owner, once, list));
                 }
                 let found = first;
                 let at = BindAt::FoundOwner { claimed, found };
@@ -136,7 +149,9 @@ impl<M: Mix> Table<M> {
                 let at = unlocking(claimed, Then::Answer(reply));
                 self.binding::<K>(seat, env, number, port, owner, once, at);
                 let node = claimed.attempt.node;
-                return self.give_up_bind::<K>(seat, env, number, port, owner, once, node, reply);
+                return Ok(self.give_up_bind::<K>(
+                    seat, env, number, port, owner, once, node, reply,
+                ));
             }
             let length = probed.seen.length;
             let at = BindAt::Future { claimed, length };
@@ -149,8 +164,7 @@ impl<M: Mix> Table<M> {
             }
             let Locked { place, word } = bucket;
             if length >= FULL_CHAIN {
-                return self.grow::<R, K>(
-                    rt,
+                return self.grow::<K>(
                     seat,
                     number,
                     port,
@@ -171,11 +185,12 @@ impl<M: Mix> Table<M> {
                 let reply = Reply::TooBig { count };
                 let at = unlocking(claimed, Then::Answer(reply));
                 self.binding::<K>(seat, env, number, port, owner, once, at);
-                return self.give_up_bind::<K>(seat, env, number, port, owner, once, node, reply);
+                return Ok(self.give_up_bind::<K>(
+                    seat, env, number, port, owner, once, node, reply,
+                ));
             }
             if above_100(ports, Shape::from(shape).size(), env.config.max) {
-                return self.grow::<R, K>(
-                    rt,
+                return self.grow::<K>(
                     seat,
                     number,
                     port,
@@ -197,10 +212,9 @@ impl<M: Mix> Table<M> {
             let kick = kicks(env, claimed, count);
             let at = publishing(env, claimed, kick);
             self.binding::<K>(seat, env, number, port, owner, once, at);
-            return self.close_bound::<K>(seat, env, number, port, owner, once, kick);
+            return Ok(self.close_bound::<K>(seat, env, number, port, owner, once, kick));
         }
-        never(rt);
-        unreachable!()
+        self.bind_left::<K>(seat, number, port, owner, once, node, table)
     }
 
     /// Puts the node in front of the port's list.
@@ -301,12 +315,12 @@ impl<M: Mix> Table<M> {
         reply
     }
 
-    /// Binds the port from a nested table on.
+    /// Leaves a bind before the entries of a nested table. It answers what the bind does, as the three functions
+    /// below: the compiler keeps room for each answer that is made into another one.
     #[cold]
     #[inline(never)]
-    fn bind_nested<R: Wait, K: Ride>(
+    fn bind_nested<K: Ride>(
         &self,
-        rt: &R,
         seat: &mut Seat<(), SeatView<M>>,
         number: u32,
         port: Port,
@@ -316,25 +330,66 @@ impl<M: Mix> Table<M> {
         table: u32,
         shape: u64,
         bucket: u32,
-    ) -> Reply
+    ) -> Result<Reply, BindAt>
         requires { IsRiding M.mix_of self.now K.riding (bind_at self.now.env number port owner once (Locating (first_attempt node) (nested_locate self.now.env.geometry table shape bucket))) seat.old }
-        ensures { HasEnded M.mix_of self.now K.riding result seat.new }
+        ensures { Stepped M.mix_of self.now K.riding (bind_came self.now.env number port owner once result) seat.new }
     {
         let locate = nested_locate(self.env.geometry, table, shape, bucket);
         let attempt = Attempt {
             node,
             attached: false,
         };
-        let at = BindAt::Locating { attempt, locate };
-        self.rest_of_bind::<R, K>(rt, seat, number, port, owner, once, at)
+        Err(BindAt::Locating { attempt, locate })
     }
 
-    /// Unlocks a bucket into which the node doesn't go, and binds with a further table.
+    /// Leaves a bind that hasn't taken its node, or hasn't filled it.
     #[cold]
     #[inline(never)]
-    fn grow<R: Wait, K: Ride>(
+    fn bind_filling<K: Ride>(
         &self,
-        rt: &R,
+        seat: &mut Seat<(), SeatView<M>>,
+        number: u32,
+        port: Port,
+        owner: u32,
+        once: bool,
+        at: NewNodeAt,
+    ) -> Result<Reply, BindAt>
+        requires { IsRiding M.mix_of self.now K.riding (bind_at self.now.env number port owner once (Filling (record (new_node_new self.now.env.geometry (word_of port) owner) { at = at }))) seat.old }
+        ensures { Stepped M.mix_of self.now K.riding (bind_came self.now.env number port owner once result) seat.new }
+    {
+        let new = NewNode::new(self.env.geometry, word_of(port), owner).with(at);
+        Err(BindAt::Filling { new })
+    }
+
+    /// Leaves a bind behind so many tables.
+    #[cold]
+    #[inline(never)]
+    fn bind_left<K: Ride>(
+        &self,
+        seat: &mut Seat<(), SeatView<M>>,
+        number: u32,
+        port: Port,
+        owner: u32,
+        once: bool,
+        node: u32,
+        table: u32,
+    ) -> Result<Reply, BindAt>
+        requires { IsRiding M.mix_of self.now K.riding (bind_at self.now.env number port owner once (Locating (first_attempt node) (locate_new self.now.env.geometry table))) seat.old }
+        ensures { Stepped M.mix_of self.now K.riding (bind_came self.now.env number port owner once result) seat.new }
+    {
+        let locate = Locate::new(self.env.geometry, table);
+        let attempt = Attempt {
+            node,
+            attached: false,
+        };
+        Err(BindAt::Locating { attempt, locate })
+    }
+
+    /// Unlocks a bucket into which the node doesn't go, and leaves the bind there.
+    #[cold]
+    #[inline(never)]
+    fn grow<K: Ride>(
+        &self,
         seat: &mut Seat<(), SeatView<M>>,
         number: u32,
         port: Port,
@@ -346,9 +401,9 @@ impl<M: Mix> Table<M> {
         place: usize,
         word: u64,
         why: Full,
-    ) -> Reply
+    ) -> Result<Reply, BindAt>
         requires { IsRiding M.mix_of self.now K.riding (bind_at self.now.env number port owner once (full_at node table shape place word why)) seat.old }
-        ensures { HasEnded M.mix_of self.now K.riding result seat.new }
+        ensures { Stepped M.mix_of self.now K.riding (bind_came self.now.env number port owner once result) seat.new }
     {
         let attempt = Attempt {
             node,
@@ -362,27 +417,14 @@ impl<M: Mix> Table<M> {
             bucket,
         };
         let at = unlocking_full(claimed, why);
-        self.rest_of_bind::<R, K>(rt, seat, number, port, owner, once, at)
-    }
-
-    /// The bind from this state on, as a whole.
-    #[cold]
-    #[inline(never)]
-    fn rest_of_bind<R: Wait, K: Ride>(
-        &self,
-        rt: &R,
-        seat: &mut Seat<(), SeatView<M>>,
-        number: u32,
-        port: Port,
-        owner: u32,
-        once: bool,
-        at: BindAt,
-    ) -> Reply
-        requires { IsRiding M.mix_of self.now K.riding (bind_at self.now.env number port owner once at) seat.old }
-        ensures { HasEnded M.mix_of self.now K.riding result seat.new }
-    {
-        let bind = Bind::<M>::new(self.env, number, port, owner, once).with(at);
-        self.run_whole::<R, K, Reply, Bind<M>, Whole>(rt, seat, &Whole, bind)
+        self.binding::<K>(seat, self.env, number, port, owner, once, at);
+        let growing = Growing {
+            attempt,
+            table,
+            shape,
+            why,
+        };
+        Err(BindAt::Root { growing })
     }
 
     /// The operation of the bind in this state.
@@ -424,4 +466,24 @@ impl<M: Mix> Table<M> {
         let bind = Bind::<M>::new(env, number, port, owner, once).with(at);
         self.operate_at::<K, Reply, Bind<M>, Whole>(seat, &Whole, &bind, place)
     }
+}
+
+/// Leaves a caller in the middle of a bind, which stands here. It takes no memory.
+#[cold]
+#[inline(never)]
+pub(crate) fn leave_bind<M: Mix>(
+    local: &mut Local<M>,
+    env: Env,
+    caller: u32,
+    port: Port,
+    owner: u32,
+    once: bool,
+    at: BindAt,
+)
+    requires caller { caller < 16 }
+    requires at { IsBindAtIn env at }
+    ensures { local.new ≡ record local.old { doing = bind_at env caller port owner once at } }
+{
+    let bind = Bind::new(env, caller, port, owner, once).with(at);
+    local.doing = Doing::Binding(bind);
 }

@@ -13,14 +13,17 @@ ghost use Rattle.rht_run.specs.Passes.{IsPassOf, IsCalling, IsSamePass, HasCalle
 ghost use Rattle.rht_run.specs.Caused.{IsCaused, HasLookedUp, HasLeftBatch};
 ghost use Rattle.rht_run.specs.Tidying.{HasTidiedBatch};
 
+use crate::binding::leave_bind;
 use crate::finding::looked_up;
+use crate::layout::physical;
 use crate::pass::Pass;
 use crate::releasing::{leave_release, released};
 use crate::ride::{clear_rooms, keep_node};
 use crate::table::Table;
+use rht_core::Doing;
 use rht_model::{Call, Cursor, Reply};
 use rht_policy::Mix;
-use rht_words::{Geometry, Port, word_of};
+use rht_words::{Geometry, Next, Port, word_of};
 use std::marker::Brand;
 use std::sync::Wait;
 
@@ -62,8 +65,35 @@ impl<M: Mix> Table<M> {
         ensures { HasSetOut M.mix_of self.now call pass.old result pass.new }
     {
         match call {
+            Call::Bind { port, owner, once } => self.bind_in(pass, port, owner, once, rounds),
             Call::Release { port, owner } => self.release_in(pass, port, owner, rounds),
             _ => self.start(pass, call),
+        }
+    }
+
+    /// Sets out on a bind.
+    #[inline(always)]
+    fn bind_in(
+        &self,
+        pass: &mut Pass<M>,
+        port: Port,
+        owner: u32,
+        once: bool,
+        rounds: u64,
+    ) -> Option<Reply>
+        requires pass { IsPassOf M.mix_of self.now pass.old }
+        requires idle { is_idle pass.old.local ≡ true }
+        ensures { HasSetOut M.mix_of self.now (Bind port owner once) pass.old result pass.new }
+    {
+        clear_rooms(&mut pass.local);
+        let number = pass.number;
+        let came = self.drive_bind::<Brand>(&mut pass.seat, number, port, owner, once, rounds);
+        match came {
+            Ok(reply) => Some(reply),
+            Err(at) => {
+                leave_bind(&mut pass.local, self.env, number, port, owner, once, at);
+                None
+            }
         }
     }
 
@@ -149,9 +179,10 @@ impl<M: Mix> Table<M> {
         ensures reply { IsBindReply true result }
         ensures cause { IsCaused M.mix_of self.now (Bind port owner true) result pass.old pass.new }
     {
+        // A call may be made of each port, since a port's key word is below 2^48.
+        let _ = word_of(port);
         let once = true;
-        clear_rooms(&mut pass.local);
-        self.drive_bind::<R, Brand>(rt, &mut pass.seat, pass.number, port, owner, once)
+        self.call(rt, pass, Call::Bind { port, owner, once })
     }
 
     /// Binds a port to an owner, and tries again where `bind_once` answers `Again`. Each other reply comes
@@ -163,9 +194,10 @@ impl<M: Mix> Table<M> {
         ensures reply { IsBindReply false result }
         ensures cause { IsCaused M.mix_of self.now (Bind port owner false) result pass.old pass.new }
     {
+        // A call may be made of each port, since a port's key word is below 2^48.
+        let _ = word_of(port);
         let once = false;
-        clear_rooms(&mut pass.local);
-        self.drive_bind::<R, Brand>(rt, &mut pass.seat, pass.number, port, owner, once)
+        self.call(rt, pass, Call::Bind { port, owner, once })
     }
 
     /// Takes one binding of a port to this owner out: `Released`, or `Absent` where there is none. Its node
@@ -308,7 +340,8 @@ impl<M: Mix> Table<M> {
         self.tidied(pass)
     }
 
-    /// Tidies, operation by operation. It has no more than so many, so nothing stands behind its loop.
+    /// Tidies. Behind the first operation its machine is held beside the pass, which gets its batch back at the
+    /// end. It has no more operations than so many, so nothing stands behind its loop.
     fn tidied(&self, pass: &mut Pass<M>) -> Reply
         requires pass { IsPassOf M.mix_of self.now pass.old }
         requires idle { is_idle pass.old.local ≡ true }
@@ -318,9 +351,18 @@ impl<M: Mix> Table<M> {
         if let Some(reply) = self.start(pass, Call::Tidy) {
             return reply;
         }
+        let doing = std::mem::replace(&mut pass.local.doing, Doing::Idle);
+        let Doing::Tidying(tidy) = doing else {
+            unreachable!()
+        };
+        let mut tidy = tidy;
         let most = most_of_tidying(self.env.geometry);
         for rounds in 0..most {
-            if let Some(reply) = self.step(pass) {
+            let op = tidy.plan();
+            let at = physical(op.place());
+            let old = self.perform::<Brand>(&mut pass.seat, op, at);
+            if let Next::Done(reply) = tidy.take(old) {
+                pass.local.batch = Some(tidy.into_parts());
                 return reply;
             }
         }

@@ -55,7 +55,7 @@ impl<M: Mix> Table<M> {
         let geometry = env.geometry;
         let starts = self.starts();
         let begun = self.begin_with_node::<K, RebindFilling>(seat, &frame, starts, port, new);
-        let Some(taken) = begun else {
+        let Ok(taken) = begun else {
             never(rt);
             unreachable!()
         };

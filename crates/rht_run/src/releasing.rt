@@ -73,12 +73,10 @@ impl<M: Mix> Table<M> {
                 shape,
                 bucket,
             } => {
-                return Err(self.release_nested::<K>(
-                    seat, number, port, owner, table, shape, bucket,
-                ));
+                return self.release_nested::<K>(seat, number, port, owner, table, shape, bucket);
             }
             Sought::Left { at } => {
-                return Err(self.release_seeking::<K>(seat, number, port, owner, at));
+                return self.release_seeking::<K>(seat, number, port, owner, at);
             }
         };
         let frame = ReleaseSearching {
@@ -234,7 +232,7 @@ impl<M: Mix> Table<M> {
         self.releasing::<K>(seat, env, number, port, owner, at);
     }
 
-    /// Where a release is left before the entries of a nested table.
+    /// Leaves a release before the entries of a nested table.
     #[cold]
     #[inline(never)]
     fn release_nested<K: Ride>(
@@ -246,15 +244,15 @@ impl<M: Mix> Table<M> {
         table: u32,
         shape: u64,
         bucket: u32,
-    ) -> ReleaseAt
+    ) -> Result<(Option<bool>, Option<u32>), ReleaseAt>
         requires { IsRiding M.mix_of self.now K.riding (release_at self.now.env number port owner (Seeking (nested_seek self.now.env.geometry table shape bucket))) seat.old }
-        ensures { IsRiding M.mix_of self.now K.riding (release_at self.now.env number port owner result) seat.new }
+        ensures { Stepped M.mix_of self.now K.riding (release_came self.now.env number port owner result) seat.new }
     {
         let seek = nested_seek(self.env.geometry, table, shape, bucket);
-        ReleaseAt::Seeking { seek }
+        Err(ReleaseAt::Seeking { seek })
     }
 
-    /// Where a release is left whose way to the port was left here.
+    /// Leaves a release whose way to the port was left here.
     #[cold]
     #[inline(never)]
     fn release_seeking<K: Ride>(
@@ -264,12 +262,12 @@ impl<M: Mix> Table<M> {
         port: Port,
         owner: u32,
         at: SeekAt,
-    ) -> ReleaseAt
+    ) -> Result<(Option<bool>, Option<u32>), ReleaseAt>
         requires { IsRiding M.mix_of self.now K.riding (release_at self.now.env number port owner (Seeking (port_seek self.now.env.geometry port at).seek)) seat.old }
-        ensures { IsRiding M.mix_of self.now K.riding (release_at self.now.env number port owner result) seat.new }
+        ensures { Stepped M.mix_of self.now K.riding (release_came self.now.env number port owner result) seat.new }
     {
         let seek = Seek::new(self.env.geometry).with(at);
-        ReleaseAt::Seeking { seek }
+        Err(ReleaseAt::Seeking { seek })
     }
 
     /// The operation of the release in this state.

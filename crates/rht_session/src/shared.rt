@@ -89,6 +89,7 @@ impl<M: Mix> Shared<M> {
     }
 
     /// Sets out on any call, as `Table::set_out`: a reply ends it, and without one it is in progress.
+    #[inline(always)]
     pub fn set_out(&mut self, call: Call, rounds: u32) -> Option<Reply>
         requires fit { IsPassOf M.mix_of (table_of self.old) self.old.pass }
         requires free { is_idle self.old.pass.local ≡ true }

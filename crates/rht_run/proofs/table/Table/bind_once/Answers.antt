@@ -1,27 +1,19 @@
-use Rattle.std.proofs.Common.{refl, true}
+use Rattle.std.proofs.Common.{refl, arith, true}
 use Rattle.rht_model.specs.declared.history.Call.TheVariants.{Bind}
 use Rattle.rht_run.proofs.CallSteps.{answered}
 use Rattle.rht_run.proofs.CallCauses.{called_caused}
-use Rattle.rht_run.proofs.Rides.{before, called}
 use Rattle.rht_run.proofs.table.Table.bind_once.Goals as goal
 
-pub drive_bind-requires-clause-before : goal.drive_bind-requires-clause-before
-drive_bind-requires-clause-before g c =
-    before g.M.Mix.mix_of c.args.self.now c.args.pass.now (Bind c.args.port c.args.owner true) c.requires.pass c.requires.idle
-
-pub returns-clause-called : goal.returns-clause-called
-returns-clause-called g c =
-    called g.M.Mix.mix_of c.args.self.now c.args.pass.now (Bind c.args.port c.args.owner true) c.requires.pass c.requires.idle _
-    c.drive_bind.result refl c.clear_rooms.ensures c.drive_bind.ensures
+pub call-requires-clause-may : goal.call-requires-clause-may
+call-requires-clause-may g c =
+    record { idle = c.requires.idle; admitted = (c.word_of.ensures.within, omega (arith, c.ranges.owner)); machine = _; machine_is = refl }
 
 pub returns-clause-reply : goal.returns-clause-reply
 returns-clause-reply g c =
-    let has = called g.M.Mix.mix_of c.args.self.now c.args.pass.now (Bind c.args.port c.args.owner true) c.requires.pass
-    c.requires.idle _ c.drive_bind.result refl c.clear_rooms.ensures c.drive_bind.ensures in
-    (answered g.M.Mix.mix_of c.args.self.now (Bind c.args.port c.args.owner true) c.drive_bind.result c.args.pass.now _ has).reply
+    (answered g.M.Mix.mix_of c.args.self.now (Bind c.args.port c.args.owner true) c.call.result c.args.pass.now c.call.new.pass
+    c.call.ensures).reply
 
 pub returns-clause-cause : goal.returns-clause-cause
 returns-clause-cause g c =
-    let has = called g.M.Mix.mix_of c.args.self.now c.args.pass.now (Bind c.args.port c.args.owner true) c.requires.pass
-    c.requires.idle _ c.drive_bind.result refl c.clear_rooms.ensures c.drive_bind.ensures in
-    called_caused g.M.Mix.mix_of c.args.self.now (Bind c.args.port c.args.owner true) c.drive_bind.result c.args.pass.now _ has
+    called_caused g.M.Mix.mix_of c.args.self.now (Bind c.args.port c.args.owner true) c.call.result c.args.pass.now c.call.new.pass
+    c.call.ensures

@@ -1,11 +1,10 @@
-use Rattle.std.proofs.Common.{◌≡◌, ◌∙◌, ap, refl, sym, subst}
-use Rattle.std.specs.Prelude.{Option, Some}
+use Rattle.std.proofs.Common.{◌∙◌, ap, refl, sym, subst}
+use Rattle.std.specs.Prelude.{Option}
 use Rattle.rht_model.specs.declared.history.Call.TheVariants.{Release}
 use Rattle.rht_model.specs.declared.history.Reply.{Reply}
 use Rattle.rht_grace.specs.Batch.{BatchModel}
 use Rattle.rht_callers.specs.Batches.{CanPut}
 use Rattle.rht_callers.specs.declared.local.Local.{Local}
-use Rattle.rht_run.specs.Passes.{HasSetOut}
 use Rattle.rht_run.specs.Rides.{riding_of, batch_with, HasEndedWith, released}
 use Rattle.rht_run.specs.Seeks.{release_at}
 use Rattle.rht_run.proofs.Performed.{number_few}

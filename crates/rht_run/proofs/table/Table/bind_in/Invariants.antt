@@ -1,6 +1,6 @@
 use Rattle.rht_model.specs.declared.history.Call.TheVariants.{Bind}
 use Rattle.rht_run.specs.Rides.{riding_of}
-use Rattle.rht_run.proofs.table.Table.bind_once.Given as goal
+use Rattle.rht_run.proofs.table.Table.bind_in.Given as goal
 
 -- what stays as it is while the call is driven
 abbrev pub ghosts-drive_bind : goal.ghosts-drive_bind

@@ -1,7 +1,0 @@
-use Rattle.std.proofs.Common.{arith}
-use Rattle.rht_run.proofs.Rides.{riding_few}
-use Rattle.rht_run.proofs.table.Table.rest_of_bind.Goals as goal
-
-pub new-requires : goal.new-requires
-new-requires g c =
-    omega (arith, c.requires.in_range.same_caller, riding_few g.M.Mix.mix_of c.args.self.now g.K.Ride.riding _ c.args.seat.now c.requires)
