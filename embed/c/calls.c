@@ -1,8 +1,24 @@
 /* Each function on its way, and each reply that one thread can bring about: in single and listed tables, by
  * either hash. A thread with two handles is in a call of one of them while it calls by the other. */
+static void go_on_awaited(void);
+#define RHT_YIELD() go_on_awaited()
 #include "check.h"
 
 #define MANY 200
+
+/* The handle for which a waiting call waits, what its own call has come to, and how often the waiting one yielded. */
+static rht_handle *awaited;
+static uint32_t awaited_code, yields;
+
+/* What a waiting call does in between: that handle goes on to the end of its call. */
+static void go_on_awaited(void)
+{
+    rht_reply reply = NOTHING;
+    yields++;
+    if (awaited != NULL)
+        awaited_code = rht_go_on(awaited, 1000, &reply);
+    awaited = NULL;
+}
 
 static void plain(struct test *t)
 {
@@ -504,6 +520,172 @@ static void goes_so_far(struct test *t)
     close_table(t);
 }
 
+/* Where nobody else is at the bucket one round is enough: the first answer is the reply. */
+static void goes_in_one(struct test *t)
+{
+    rht_handle *h = t->handles;
+    t->config.nodes = 3;
+    open_table(t, 1);
+    REPLIES(t, rht_release_in(h, port(80), 1, 1, &t->reply), RHT_ABSENT, NOTHING);
+    REPLIES(t, rht_bind_in(h, port(80), 1, 1, &t->reply), RHT_BOUND, NOTHING);
+    REFUSED(t, rht_go_on(h, 1, &t->reply), RHT_NO_CALL);
+    REPLIES(t, rht_bind_once_in(h, port(81), 2, 1, &t->reply), RHT_BOUND, NOTHING);
+    if (t->config.listed)
+        REPLIES(t, rht_bind_in(h, port(80), 3, 1, &t->reply), RHT_BOUND, NOTHING);
+    else {
+        REPLIES(t, rht_bind_in(h, port(80), 3, 1, &t->reply), RHT_EXISTS, {.owner = 1});
+        REPLIES(t, rht_bind_once_in(h, port(81), 3, 1, &t->reply), RHT_EXISTS, {.owner = 2});
+        REPLIES(t, rht_bind_in(h, in_net(1, 80), 3, UINT32_MAX, &t->reply), RHT_BOUND, NOTHING);
+    }
+    REPLIES(t, rht_release_in(h, port(80), 9, 1, &t->reply), RHT_ABSENT, NOTHING);
+    REPLIES(t, rht_release_in(h, port(80), 1, 1, &t->reply), RHT_RELEASED, NOTHING);
+    REPLIES(t, rht_release_in(h, port(81), 2, UINT32_MAX, &t->reply), RHT_RELEASED, NOTHING);
+    REPLIES(t, rht_count(h, &t->reply), RHT_COUNTED, {.count = 1});
+    REPLIES(t, rht_tidy(h, &t->reply), RHT_CLEAR, {.returned = 2});
+    close_table(t);
+}
+
+/* A bind takes its node before it comes to a lock. So that none is free is answered without a round. */
+static void has_no_node_in_one(struct test *t)
+{
+    t->config.nodes = 1;
+    open_table(t, 1);
+    bind_ports(t, 1, 1);
+    REPLIES(t, rht_bind_in(t->handles, port(2), 1, 0, &t->reply), RHT_NO_NODE, NOTHING);
+    REPLIES(t, rht_bind_once_in(t->handles, port(2), 1, 0, &t->reply), RHT_NO_NODE, NOTHING);
+    close_table(t);
+}
+
+/* A call in one go of a port that is owner 7's, in lists and in single tables. */
+struct in_one {
+    uint32_t (*call)(rht_handle *, rht_port, uint32_t, uint32_t, rht_reply *);
+    uint32_t (*begin)(rht_handle *, rht_port, uint32_t, rht_reply *);
+    uint32_t (*wait)(rht_handle *, rht_port, uint32_t, rht_reply *);
+    uint32_t before_lock, if_listed, if_single;
+};
+
+static const struct in_one in_one[] = {
+    {rht_bind_in, rht_bind_begin, rht_bind, 9, RHT_BOUND, RHT_EXISTS},
+    {rht_bind_once_in, rht_bind_once_begin, rht_bind_once, 9, RHT_BOUND, RHT_EXISTS},
+    {rht_release_in, rht_release_begin, rht_release, 4, RHT_RELEASED, RHT_RELEASED},
+};
+
+#define IN_ONE (sizeof in_one / sizeof *in_one)
+
+static uint32_t ends_with(const struct test *t, const struct in_one *it)
+{
+    return t->listed ? it->if_listed : it->if_single;
+}
+
+/* With no round a call leaves off before the lock, after so many operations. Those that are left are as many as a call
+ * has left that was begun and gone on with so far. */
+static void leaves_off_so_far(struct test *t)
+{
+    rht_handle *h = t->handles;
+    uint32_t made, left;
+    size_t i;
+    for (i = 0; i < IN_ONE; i++) {
+        open_table(t, 1);
+        ANSWERS(t, rht_bind_in(h, port(80), 7, 1, &t->reply), RHT_BOUND);
+        ANSWERS(t, by_ones(t, in_one[i].begin(h, port(80), 7, &t->reply), &made), ends_with(t, &in_one[i]));
+        close_table(t);
+        open_table(t, 1);
+        ANSWERS(t, rht_bind_in(h, port(80), 7, 1, &t->reply), RHT_BOUND);
+        REFUSED(t, in_one[i].call(h, port(80), 7, 0, &t->reply), RHT_NOT_YET);
+        ANSWERS(t, by_ones(t, RHT_NOT_YET, &left), ends_with(t, &in_one[i]));
+        CHECK(t, made == in_one[i].before_lock + left - 1);
+        close_table(t);
+    }
+}
+
+/* A call that has left off before the lock refuses others, holds nobody up, and is in its section. */
+static void leaves_off_before_a_lock(struct test *t)
+{
+    rht_handle *in = &t->handles[0], *h = &t->handles[1];
+    size_t i, k;
+    for (i = 0; i < IN_ONE; i++) {
+        open_table(t, 2);
+        ANSWERS(t, rht_bind(h, port(80), 7, &t->reply), RHT_BOUND);
+        ANSWERS(t, rht_bind(h, in_net(1, 80), 8, &t->reply), RHT_BOUND);
+        REFUSED(t, in_one[i].call(in, port(80), 7, 0, &t->reply), RHT_NOT_YET);
+        for (k = 0; k < IN_ONE; k++) {
+            REFUSED(t, in_one[k].call(in, port(80), 7, 0, &t->reply), RHT_IN_CALL);
+            REFUSED(t, in_one[k].call(in, port(80), 7, 1, &t->reply), RHT_IN_CALL);
+        }
+        REFUSED(t, rht_find(in, port(80), &t->owner), RHT_IN_CALL);
+        ANSWERS(t, rht_find(h, port(80), &t->owner), RHT_FOUND);
+        REPLIES(t, rht_release_in(h, port(80), 9, 1, &t->reply), RHT_ABSENT, NOTHING);
+        REPLIES(t, rht_release_in(h, in_net(1, 80), 8, 1, &t->reply), RHT_RELEASED, NOTHING);
+        ANSWERS(t, rht_tidy(h, &t->reply), RHT_PENDING);
+        CHECK(t, t->reply.caller == 0);
+        REFUSED(t, rht_go_on(in, 1, &t->reply), RHT_NOT_YET);
+        ANSWERS(t, rht_go_on(in, 1000, &t->reply), ends_with(t, &in_one[i]));
+        REPLIES(t, rht_tidy(h, &t->reply), RHT_CLEAR, {.returned = 1});
+        close_table(t);
+    }
+}
+
+/* Eleven operations lead a bind to the lock of its bucket. After ten of the first handle one round is enough for the
+ * second one. After the eleventh three don't suffice, and neither do five operations more. */
+static void leaves_off_at_a_lock(struct test *t)
+{
+    rht_handle *in = &t->handles[0], *h = &t->handles[1];
+    const uint32_t other = t->listed ? RHT_BOUND : RHT_EXISTS;
+    size_t i;
+    for (i = 0; i < IN_ONE; i++) {
+        open_table(t, 2);
+        ANSWERS(t, rht_bind(h, port(80), 7, &t->reply), RHT_BOUND);
+        ANSWERS(t, rht_bind_begin(in, port(80), 9, &t->reply), RHT_NOT_YET);
+        ANSWERS(t, rht_go_on(in, 9, &t->reply), RHT_NOT_YET);
+        REPLIES(t, rht_release_in(h, port(80), 6, 1, &t->reply), RHT_ABSENT, NOTHING);
+        ANSWERS(t, rht_go_on(in, 1, &t->reply), RHT_NOT_YET);
+        REFUSED(t, in_one[i].call(h, port(80), 7, 3, &t->reply), RHT_NOT_YET);
+        REFUSED(t, rht_go_on(h, 5, &t->reply), RHT_NOT_YET);
+        REFUSED(t, rht_find(h, port(80), &t->owner), RHT_IN_CALL);
+        ANSWERS(t, rht_go_on(in, 1000, &t->reply), other);
+        ANSWERS(t, rht_go_on(h, 1000, &t->reply), ends_with(t, &in_one[i]));
+        REPLIES(t, rht_bind_in(h, port(81), 1, 1, &t->reply), RHT_BOUND, NOTHING);
+        close_table(t);
+    }
+}
+
+/* The calls of the header wait for that lock: they leave off, go on, and yield. Where nobody has it they don't. */
+static void waits_for_a_lock(struct test *t)
+{
+    rht_handle *in = &t->handles[0], *h = &t->handles[1];
+    size_t i;
+    for (i = 0; i < IN_ONE; i++) {
+        open_table(t, 2);
+        yields = 0;
+        ANSWERS(t, rht_bind(h, port(80), 7, &t->reply), RHT_BOUND);
+        CHECK(t, yields == 0);
+        ANSWERS(t, rht_bind_begin(in, port(80), 9, &t->reply), RHT_NOT_YET);
+        ANSWERS(t, rht_go_on(in, 10, &t->reply), RHT_NOT_YET);
+        awaited = in;
+        ANSWERS(t, in_one[i].wait(h, port(80), 7, &t->reply), ends_with(t, &in_one[i]));
+        CHECK(t, yields == 1 && awaited == NULL && awaited_code == (t->listed ? RHT_BOUND : RHT_EXISTS));
+        close_table(t);
+    }
+}
+
+/* A bind that wants a further table leaves off for that, whatever its rounds. One that finds it there doesn't. */
+static void wants_a_table_in_one(struct test *t)
+{
+    rht_handle *h = t->handles;
+    open_table(t, 1);
+    bind_ports(t, 0, 64);
+    REFUSED(t, rht_bind_once_in(h, port(65), 1065, UINT32_MAX, &t->reply), RHT_NOT_YET);
+    REPLIES(t, rht_finish(h, RHT_NOT_YET, &t->reply), RHT_AGAIN, {.table = 1});
+    REPLIES(t, rht_bind_once_in(h, port(65), 1065, 1, &t->reply), RHT_BOUND, NOTHING);
+    close_table(t);
+    open_table(t, 1);
+    bind_ports(t, 0, 64);
+    REFUSED(t, rht_bind_in(h, port(65), 1065, UINT32_MAX, &t->reply), RHT_NOT_YET);
+    REPLIES(t, rht_finish(h, RHT_NOT_YET, &t->reply), RHT_BOUND, {.kick = true});
+    REPLIES(t, rht_bind_in(h, port(66), 1066, 1, &t->reply), RHT_BOUND, NOTHING);
+    close_table(t);
+}
+
 /* The first handle is in a section while the second one tidies, at first without a node that waits. */
 static void is_pending(struct test *t)
 {
@@ -837,7 +1019,10 @@ static const struct named tests[] = {
     {"grows", grows}, {"grows_twice", grows_twice}, {"shrinks", shrinks}, {"fills", fills},
     {"is_busy", is_busy}, {"has_no_table", has_no_table}, {"holds_tables_back", holds_tables_back},
     {"goes_by_ones", goes_by_ones},
-    {"goes_so_far", goes_so_far}, {"is_pending", is_pending}, {"tidies_twice", tidies_twice},
+    {"goes_so_far", goes_so_far}, {"goes_in_one", goes_in_one}, {"has_no_node_in_one", has_no_node_in_one},
+    {"leaves_off_so_far", leaves_off_so_far}, {"leaves_off_before_a_lock", leaves_off_before_a_lock},
+    {"leaves_off_at_a_lock", leaves_off_at_a_lock}, {"waits_for_a_lock", waits_for_a_lock},
+    {"wants_a_table_in_one", wants_a_table_in_one}, {"is_pending", is_pending}, {"tidies_twice", tidies_twice},
     {"is_elsewhere", is_elsewhere}, {"shares", shares}, {"opens_again", opens_again}, {"moves", moves},
     {"has_sixteen", has_sixteen}, {"ends", ends}, {"ends_empty", ends_empty},
     {"ends_in_any_order", ends_in_any_order}, {"closes_some", closes_some}, {"closes_each", closes_each},

@@ -1,7 +1,9 @@
 /* Libraries that lie, which the tests have to find out. LIE is the number of a lie, and the linker puts it before the
  * function of the library that it is about, by --wrap. Above each lie stand the function, the test that has to fail,
  * and what is wrong then; `embed/check test` reads these lines. */
+#define _POSIX_C_SOURCE 200809L
 #include <stdlib.h>
+#include <time.h>
 
 #include "rht.h"
 
@@ -25,9 +27,13 @@ WRAPPED(uint32_t, rht_find, (rht_handle * handle, rht_port port, uint32_t *owner
     return code == RHT_FOUND && *owner == 501 && rand() % 8 == 0 ? RHT_MISSING : code;
 }
 #elif LIE == 3 /* rht_go_on threads: several take the place of one owner */
+/* It takes its time, so that another thread rebinds between a look-up and the rebind that follows it. */
 WRAPPED(uint32_t, rht_go_on, (rht_handle * handle, uint32_t steps, rht_reply *reply))
 {
-    const uint32_t code = __real_rht_go_on(handle, steps, reply);
+    const struct timespec while_others_run = {.tv_nsec = 20000};
+    uint32_t code;
+    nanosleep(&while_others_run, NULL);
+    code = __real_rht_go_on(handle, steps, reply);
     return code == RHT_ABSENT ? RHT_REBOUND : code;
 }
 #elif LIE == 4 /* rht_go_on calls: an operation more is made than was asked */
@@ -241,6 +247,75 @@ WRAPPED(uint32_t, rht_close_all,
     if (code == RHT_ENDED && closed->len > 100)
         into[100] = into[99];
     return code;
+}
+#elif LIE == 31 /* rht_bind_in calls: each bind kicks */
+WRAPPED(uint32_t, rht_bind_in, (rht_handle * handle, rht_port port, uint32_t owner, uint32_t rounds, rht_reply *reply))
+{
+    const uint32_t code = __real_rht_bind_in(handle, port, owner, rounds, reply);
+    reply->kick = reply->kick || code == RHT_BOUND;
+    return code;
+}
+#elif LIE == 32 /* rht_bind_in calls: one operation is made, and not all */
+WRAPPED(uint32_t, rht_bind_in, (rht_handle * handle, rht_port port, uint32_t owner, uint32_t rounds, rht_reply *reply))
+{
+    (void)rounds;
+    return rht_bind_begin(handle, port, owner, reply);
+}
+#elif LIE == 33 /* rht_bind_once_in calls: it is tried again */
+WRAPPED(uint32_t, rht_bind_once_in,
+        (rht_handle * handle, rht_port port, uint32_t owner, uint32_t rounds, rht_reply *reply))
+{
+    return rht_bind_in(handle, port, owner, rounds, reply);
+}
+#elif LIE == 34 /* rht_bind_once_in calls: it leaves off where nobody is in the way */
+WRAPPED(uint32_t, rht_bind_once_in,
+        (rht_handle * handle, rht_port port, uint32_t owner, uint32_t rounds, rht_reply *reply))
+{
+    return __real_rht_bind_once_in(handle, port, owner, rounds - (rounds == 1), reply);
+}
+#elif LIE == 35 /* rht_release_in calls: a lock is tried where no round was asked */
+WRAPPED(uint32_t, rht_release_in,
+        (rht_handle * handle, rht_port port, uint32_t owner, uint32_t rounds, rht_reply *reply))
+{
+    return __real_rht_release_in(handle, port, owner, rounds == 0 ? 1 : rounds, reply);
+}
+#elif LIE == 36 /* rht_release_in calls: a call that has left off has made an operation more */
+WRAPPED(uint32_t, rht_release_in,
+        (rht_handle * handle, rht_port port, uint32_t owner, uint32_t rounds, rht_reply *reply))
+{
+    const uint32_t code = __real_rht_release_in(handle, port, owner, rounds, reply);
+    return code == RHT_NOT_YET ? rht_go_on(handle, 1, reply) : code;
+}
+#elif LIE == 37 /* rht_release_in calls: a call that has left off writes a reply */
+WRAPPED(uint32_t, rht_release_in,
+        (rht_handle * handle, rht_port port, uint32_t owner, uint32_t rounds, rht_reply *reply))
+{
+    const uint32_t code = __real_rht_release_in(handle, port, owner, rounds, reply);
+    if (code == RHT_NOT_YET)
+        reply->kick = false;
+    return code;
+}
+#elif LIE == 38 /* rht_bind_in wrong: a refused bind writes a reply */
+WRAPPED(uint32_t, rht_bind_in, (rht_handle * handle, rht_port port, uint32_t owner, uint32_t rounds, rht_reply *reply))
+{
+    const uint32_t code = __real_rht_bind_in(handle, port, owner, rounds, reply);
+    if (code >= RHT_NOT_OPEN)
+        reply->owner = 0;
+    return code;
+}
+#elif LIE == 39 /* rht_release_in wrong: a release in a call isn't refused */
+WRAPPED(uint32_t, rht_release_in,
+        (rht_handle * handle, rht_port port, uint32_t owner, uint32_t rounds, rht_reply *reply))
+{
+    const uint32_t code = __real_rht_release_in(handle, port, owner, rounds, reply);
+    return code == RHT_IN_CALL ? RHT_NOT_YET : code;
+}
+#elif LIE == 40 /* rht_release_in threads: what is bound to another owner is said to be released */
+WRAPPED(uint32_t, rht_release_in,
+        (rht_handle * handle, rht_port port, uint32_t owner, uint32_t rounds, rht_reply *reply))
+{
+    const uint32_t code = __real_rht_release_in(handle, port, owner, rounds, reply);
+    return code == RHT_ABSENT ? RHT_RELEASED : code;
 }
 #else
 #error "there is no such lie"

@@ -2,8 +2,8 @@
  * program owes, as rht.h lists it, isn't tried here: nothing checks it. */
 #include "check.h"
 
-#define CALLS 12
-#define BEGINS 6
+#define CALLS 15
+#define BEGINS 9
 
 /* Closes handles together, which is to be refused: nothing is written then. */
 static uint32_t close_all(struct test *t, rht_handle *handles, size_t count)
@@ -17,28 +17,39 @@ static uint32_t close_all(struct test *t, rht_handle *handles, size_t count)
     return code;
 }
 
-/* makes the call of this number, of those that take a handle; first those that begin one */
+/* makes the call of this number, of those that take a handle; first those that begin one, or go in one go without a
+ * round */
 static uint32_t make(struct test *t, rht_handle *h, unsigned which)
 {
     const rht_cursor start = {0, 0, false};
     switch (which) {
     case 0: return rht_bind_begin(h, port(81), 8, &t->reply);
     case 1: return rht_bind_once_begin(h, port(81), 8, &t->reply);
-    case 2: return rht_release_begin(h, port(80), 7, &t->reply);
-    case 3: return rht_rebind_begin(h, port(80), 7, 9, &t->reply);
-    case 4: return rht_all_begin(h, port(80), &t->reply);
-    case 5: return rht_work_begin(h, &t->reply);
-    case 6: return rht_find(h, port(80), &t->owner);
-    case 7: return rht_walk(h, start, 10, &t->reply);
-    case 8: return rht_tidy(h, &t->reply);
-    case 9: return rht_count(h, &t->reply);
-    case 10: return close_all(t, h, 1);
+    case 2: return rht_bind_in(h, port(81), 8, 0, &t->reply);
+    case 3: return rht_bind_once_in(h, port(81), 8, 0, &t->reply);
+    case 4: return rht_release_begin(h, port(80), 7, &t->reply);
+    case 5: return rht_release_in(h, port(80), 7, 0, &t->reply);
+    case 6: return rht_rebind_begin(h, port(80), 7, 9, &t->reply);
+    case 7: return rht_all_begin(h, port(80), &t->reply);
+    case 8: return rht_work_begin(h, &t->reply);
+    case 9: return rht_find(h, port(80), &t->owner);
+    case 10: return rht_walk(h, start, 10, &t->reply);
+    case 11: return rht_tidy(h, &t->reply);
+    case 12: return rht_count(h, &t->reply);
+    case 13: return close_all(t, h, 1);
     default: return rht_close(h);
     }
 }
 
 /* what the begun call of this number comes to, where port 80 is bound to 7 and nothing is due */
-static const uint32_t ends[BEGINS] = {RHT_BOUND, RHT_BOUND, RHT_RELEASED, RHT_REBOUND, RHT_LISTED, RHT_IDLE};
+static const uint32_t ends[BEGINS] = {RHT_BOUND, RHT_BOUND, RHT_BOUND, RHT_BOUND, RHT_RELEASED, RHT_RELEASED,
+                                      RHT_REBOUND, RHT_LISTED, RHT_IDLE};
+
+/* how many ports are bound after that */
+static uint32_t left_bound(unsigned begun)
+{
+    return ends[begun] == RHT_BOUND ? 2 : ends[begun] == RHT_RELEASED ? 0 : 1;
+}
 
 static bool is_same(const rht_handle *a, const rht_handle *b) { return a->at == b->at && a->in_use == b->in_use; }
 
@@ -69,6 +80,8 @@ static void is_not_open(struct test *t)
         REFUSED(t, rht_go_on(&blank[i], 1, &t->reply), RHT_NOT_OPEN);
         REFUSED(t, rht_go_on(&blank[i], 0, &t->reply), RHT_NO_STEPS);
         REFUSED(t, rht_bind(&blank[i], port(80), 7, &t->reply), RHT_NOT_OPEN);
+        REFUSED(t, rht_bind_once(&blank[i], port(80), 7, &t->reply), RHT_NOT_OPEN);
+        REFUSED(t, rht_release(&blank[i], port(80), 7, &t->reply), RHT_NOT_OPEN);
         has_no_lists(t, &blank[i]);
         CHECK(t, is_same(&blank[i], &before));
     }
@@ -86,13 +99,16 @@ static void is_in_call(struct test *t)
         before = *t->handles;
         for (which = 0; which < CALLS; which++)
             REFUSED(t, make(t, t->handles, which), RHT_IN_CALL);
+        REFUSED(t, rht_bind(t->handles, port(81), 8, &t->reply), RHT_IN_CALL);
+        REFUSED(t, rht_bind_once(t->handles, port(81), 8, &t->reply), RHT_IN_CALL);
+        REFUSED(t, rht_release(t->handles, port(80), 7, &t->reply), RHT_IN_CALL);
         REFUSED(t, rht_go_on(t->handles, 0, &t->reply), RHT_NO_STEPS);
         has_no_lists(t, t->handles);
         CHECK(t, is_same(t->handles, &before));
         ANSWERS(t, rht_finish(t->handles, RHT_NOT_YET, &t->reply), ends[begun]);
         CHECK(t, rht_owners(t->handles, 0, &t->owner, 1) == (ends[begun] == RHT_LISTED ? 1 : 0));
         ANSWERS(t, rht_count(t->handles, &t->reply), RHT_COUNTED);
-        CHECK(t, t->reply.count == (begun < 2 ? 2 : begun == 2 ? 0 : 1));
+        CHECK(t, t->reply.count == left_bound(begun));
         close_table(t);
     }
 }
@@ -207,9 +223,10 @@ static void closes_in_a_call(struct test *t)
                     ANSWERS(t, rht_find(&t->handles[i], port(81), &t->owner), RHT_MISSING);
             ANSWERS(t, rht_finish(&t->handles[in], RHT_NOT_YET, &t->reply), ends[begun]);
             ANSWERS(t, rht_close_all(t->handles, 3, pairs, 2, &closed), RHT_ENDED);
-            CHECK(t, closed.keys == (begun < 2 ? 2 : begun == 2 ? 0 : 1) && closed.len == closed.keys);
-            CHECK(t, begun == 2 || (pairs[0].port.number == 80 && pairs[0].owner == (begun == 3 ? 9 : 7)));
-            CHECK(t, begun > 1 || (pairs[1].port.number == 81 && pairs[1].owner == 8));
+            CHECK(t, closed.keys == left_bound(begun) && closed.len == closed.keys);
+            CHECK(t, closed.keys < 1 || pairs[0].port.number == 80);
+            CHECK(t, closed.keys < 1 || pairs[0].owner == (ends[begun] == RHT_REBOUND ? 9 : 7));
+            CHECK(t, closed.keys < 2 || (pairs[1].port.number == 81 && pairs[1].owner == 8));
         }
 }
 

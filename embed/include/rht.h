@@ -193,8 +193,8 @@ uint32_t rht_tidy(rht_handle *handle, rht_reply *reply);
 /* Counts the bound ports, by one load: RHT_COUNTED. */
 uint32_t rht_count(rht_handle *handle, rht_reply *reply);
 
-/* ---- calls that may have to wait for another handle: each makes one operation, and rht_go_on makes more.
- * RHT_NOT_YET comes from each of them; they are refused as the calls above. */
+/* ---- calls that may have to wait for another handle: each makes one operation, or in one go all for which it needn't
+ * wait, and rht_go_on makes more. RHT_NOT_YET comes from each of them; they are refused as the calls above. */
 
 /* Binds a port: RHT_BOUND, RHT_EXISTS, RHT_TOO_BIG, RHT_BUSY, RHT_NO_TABLE, RHT_NO_NODE. A bind wants a further table
  * where more ports are bound than there are buckets, or 16 in its bucket. It wants a page where its bucket's is
@@ -205,17 +205,30 @@ uint32_t rht_bind_begin(rht_handle *handle, rht_port port, uint32_t owner, rht_r
 /* Binds a port, and is tried once alone: also RHT_AGAIN. */
 uint32_t rht_bind_once_begin(rht_handle *handle, rht_port port, uint32_t owner, rht_reply *reply);
 
-/* These two in one go: all operations of the bind, as long as it need not wait. Where another handle holds a bucket's
- * lock it looks so many rounds for it, and then leaves off: RHT_NOT_YET, from which rht_go_on goes on. With rounds 0
- * it leaves off before each lock. It does so too before a table's part that is seldom there, and once it has found
- * that it wants a further table. */
+/* These two in one go: operation after operation, up to the reply where nothing is in the way. The kernel's function is
+ * rhashtable_insert_fast, with the look for the key of rhashtable_lookup_insert_key.
+ *
+ * rounds is how often a bind tries at most to lock a bucket, anew at each bucket to which it comes. A round is a load
+ * of the bucket's word, and where that is unlocked an exchange. It fails where another handle has the lock, or has
+ * changed the word in between. So 1 is enough where no other handle is at the bucket. With 0 the call leaves off before
+ * its first lock.
+ *
+ * RHT_NOT_YET says that the call has left off and is in progress, as one that was begun. Nothing is written then, other
+ * calls of the handle are refused, and rht_go_on goes on. It comes where the rounds are used up; at a table whose pages
+ * don't lie in one row; and where the bind has found that it wants a further table. The call holds no lock there, but
+ * is in its section.
+ *
+ * What it costs: the thread does nothing else in its rounds, and each of them touches a word that the lock's holder
+ * writes. A call that has left off costs more, since rht_go_on finds out anew at each operation where the call stands.
+ * How many operations were made in one go isn't told; by rht_bind_begin and rht_go_on it is known. */
 uint32_t rht_bind_in(rht_handle *handle, rht_port port, uint32_t owner, uint32_t rounds, rht_reply *reply);
 uint32_t rht_bind_once_in(rht_handle *handle, rht_port port, uint32_t owner, uint32_t rounds, rht_reply *reply);
 
 /* Takes one binding of the port to the owner out: RHT_RELEASED, RHT_ABSENT. */
 uint32_t rht_release_begin(rht_handle *handle, rht_port port, uint32_t owner, rht_reply *reply);
 
-/* The same in one go, as rht_bind_in. */
+/* The same in one go, with rounds and RHT_NOT_YET as at rht_bind_in; a release wants no table. The kernel's function is
+ * rhashtable_remove_fast. */
 uint32_t rht_release_in(rht_handle *handle, rht_port port, uint32_t owner, uint32_t rounds, rht_reply *reply);
 
 /* Puts a new owner in the place of the port's first owner that is this one: RHT_REBOUND, RHT_ABSENT, RHT_NO_NODE. */
@@ -251,7 +264,8 @@ size_t rht_pairs(rht_handle *handle, size_t skip, rht_pair *into, size_t room);
 #define RHT_YIELD() ((void)0)
 #endif
 
-/* So many rounds a call in one go looks for a lock before it leaves off. */
+/* The rounds of the waiting calls that go in one go first: rht_bind, rht_bind_once and rht_release. Where these are
+ * used up they go on as the others, by rht_go_on. */
 #ifndef RHT_ROUNDS
 #define RHT_ROUNDS 64
 #endif
