@@ -251,7 +251,28 @@ unsafe extern "C" {
 
     pub safe fn rht_bind_begin(handle: &mut Handle, port: Port, owner: u32, reply: &mut Reply) -> u32;
     pub safe fn rht_bind_once_begin(handle: &mut Handle, port: Port, owner: u32, reply: &mut Reply) -> u32;
+    pub safe fn rht_bind_in(
+        handle: &mut Handle,
+        port: Port,
+        owner: u32,
+        rounds: u32,
+        reply: &mut Reply,
+    ) -> u32;
+    pub safe fn rht_bind_once_in(
+        handle: &mut Handle,
+        port: Port,
+        owner: u32,
+        rounds: u32,
+        reply: &mut Reply,
+    ) -> u32;
     pub safe fn rht_release_begin(handle: &mut Handle, port: Port, owner: u32, reply: &mut Reply) -> u32;
+    pub safe fn rht_release_in(
+        handle: &mut Handle,
+        port: Port,
+        owner: u32,
+        rounds: u32,
+        reply: &mut Reply,
+    ) -> u32;
     pub safe fn rht_rebind_begin(
         handle: &mut Handle,
         port: Port,
@@ -367,6 +388,6 @@ mod tests {
         for (name, kinds) in &prototypes {
             assert_eq!(&declared(name), kinds, "{name}");
         }
-        assert_eq!(prototypes.len(), 17);
+        assert_eq!(prototypes.len(), 20);
     }
 }

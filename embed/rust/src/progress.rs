@@ -9,6 +9,9 @@ use std::thread::yield_now;
 /// How many operations are made between two times that a waiting call yields.
 pub(crate) const OPERATIONS: u32 = 64;
 
+/// The rounds of the waiting calls that go in one go first.
+pub(crate) const ROUNDS: u32 = 64;
+
 /// What a call has come to that is made in pieces.
 ///
 /// ```

@@ -1,7 +1,7 @@
 //! Seats: what a thread holds of a table.
 
 use crate::ffi::{self, code};
-use crate::progress::{Progress, Step};
+use crate::progress::{Progress, ROUNDS, Step};
 use crate::replies::{
     Bind, BindOnce, Cursor, Listed, NotWhole, Rebind, Release, Tidy, Told, Walk, Work, misfit,
 };
@@ -104,7 +104,7 @@ impl Seat {
         told(code, &reply)
     }
 
-    /// Begins a call.
+    /// Begins a call, by its first operation or in one go.
     fn begin<R: Told>(
         &mut self,
         mut make: impl FnMut(&mut ffi::Handle, &mut ffi::Reply) -> u32,
@@ -208,21 +208,24 @@ impl Seat {
 
 /// Calls that may wait for another seat. Each goes on until it has ended, and yields to other threads in between. It
 /// ends only if the threads go on for whose seats it waits. No claim says that its turn comes.
+///
+/// `bind`, `bind_once` and `release` go in one go first, with 64 rounds, as [`bind_in`](Seat::bind_in) does. Mostly
+/// they end with that, and otherwise they go on as the others.
 impl Seat {
     /// Binds a port to an owner. The refusals are told at [`Bind`].
     pub fn bind(&mut self, port: Port, owner: u32) -> Bind {
-        self.begin_bind(port, owner).finish()
+        self.bind_in(port, owner, ROUNDS).finish()
     }
 
     /// Binds a port to an owner, and is tried once alone: where a table is behind the last one that it used it
     /// answers [`BindOnce::Again`].
     pub fn bind_once(&mut self, port: Port, owner: u32) -> BindOnce {
-        self.begin_bind_once(port, owner).finish()
+        self.bind_once_in(port, owner, ROUNDS).finish()
     }
 
     /// Takes one binding of the port to the owner out.
     pub fn release(&mut self, port: Port, owner: u32) -> Release {
-        self.begin_release(port, owner).finish()
+        self.release_in(port, owner, ROUNDS).finish()
     }
 
     /// Puts a new owner in the place of the port's first owner that is this one. To all other calls it is one step,
@@ -328,6 +331,53 @@ impl Seat {
     /// Begins a `work`.
     pub fn begin_work(&mut self) -> Step<'_, Work> {
         self.begin(|handle, reply| ffi::rht_work_begin(handle, reply))
+    }
+}
+
+/// Calls that may wait, in one go: operation after operation, up to the reply where nothing is in the way. None of them
+/// waits, and none takes memory.
+///
+/// `rounds` is how often such a call tries at most to lock a bucket, anew at each bucket to which it comes. A round is
+/// a load of the bucket's word, and where that is unlocked an exchange. It fails where another seat has the lock, or
+/// has changed the word in between. So 1 is enough where no other seat is at the bucket. With 0 the call leaves off
+/// before its first lock.
+///
+/// [`Step::NotYet`] says that the call has left off, and is in progress as one that was begun. It comes where the
+/// rounds are used up; at a table whose pages don't lie in one row; and where a bind has found that it wants a further
+/// table. The call holds no lock there, but is in its section, so nodes and tables don't come back meanwhile.
+///
+/// The thread does nothing else in its rounds, and each of them touches a word that the lock's holder writes. A call
+/// that has left off costs more, since going on finds out anew at each operation where the call stands. How many
+/// operations were made in one go isn't told; of a call that was begun it is known.
+///
+/// ```
+/// use rht::{Bind, Config, Port, Release, Step, Table};
+///
+/// let mut table = Table::open(Config::plain()).unwrap();
+/// let seat = &mut table.seats[0];
+/// let Step::Ended(Bind::Bound { .. }) = seat.bind_in(Port::plain(80), 100, 1) else {
+///     panic!("nobody else is there");
+/// };
+/// let Step::NotYet(release) = seat.release_in(Port::plain(80), 100, 0) else {
+///     panic!("it takes a lock");
+/// };
+/// assert_eq!(release.finish(), Release::Released { kick: false });
+/// ```
+impl Seat {
+    /// A [`bind`](Seat::bind) in one go. The kernel's function is `rhashtable_insert_fast`, with the look for the key
+    /// of `rhashtable_lookup_insert_key`.
+    pub fn bind_in(&mut self, port: Port, owner: u32, rounds: u32) -> Step<'_, Bind> {
+        self.begin(|handle, reply| ffi::rht_bind_in(handle, port, owner, rounds, reply))
+    }
+
+    /// A [`bind_once`](Seat::bind_once) in one go.
+    pub fn bind_once_in(&mut self, port: Port, owner: u32, rounds: u32) -> Step<'_, BindOnce> {
+        self.begin(|handle, reply| ffi::rht_bind_once_in(handle, port, owner, rounds, reply))
+    }
+
+    /// A [`release`](Seat::release) in one go. The kernel's function is `rhashtable_remove_fast`.
+    pub fn release_in(&mut self, port: Port, owner: u32, rounds: u32) -> Step<'_, Release> {
+        self.begin(|handle, reply| ffi::rht_release_in(handle, port, owner, rounds, reply))
     }
 }
 

@@ -47,6 +47,41 @@ fn a_port_is_bound_found_and_released() {
     assert_eq!(seat.release(port(80), 100), Release::Absent);
 }
 
+/// Where nobody else is at the bucket, one round is enough: the first step has the reply.
+#[test]
+fn a_call_in_one_go_ends_where_nobody_is_in_the_way() {
+    let mut seat = seat(Config { nodes: 2, ..Config::plain() });
+    assert!(matches!(seat.release_in(port(80), 1, 1), Step::Ended(Release::Absent)));
+    assert!(matches!(seat.bind_in(port(80), 1, 1), Step::Ended(Bind::Bound { kick: false })));
+    assert!(matches!(seat.bind_in(port(80), 2, 1), Step::Ended(Bind::Exists { owner: 1 })));
+    let bound = BindOnce::Ended(Bind::Bound { kick: false });
+    assert!(matches!(seat.bind_once_in(port(81), 2, 1), Step::Ended(reply) if reply == bound));
+    assert!(matches!(seat.release_in(port(80), 2, 1), Step::Ended(Release::Absent)));
+    assert!(matches!(seat.release_in(port(80), 1, 1), Step::Ended(Release::Released { kick: false })));
+    // No lock comes before the node, so a bind is refused without a round.
+    assert!(matches!(seat.bind_in(port(82), 3, 0), Step::Ended(Bind::NoNode)));
+    assert_eq!((seat.find(port(80)), seat.find(port(81))), (None, Some(2)));
+    assert_eq!(seat.count(), 1);
+}
+
+/// The table has 65 ports in 64 buckets, so the next bind wants a further table, and leaves off for that. The bind
+/// after it finds that table there.
+#[test]
+fn a_bind_in_one_go_leaves_off_where_it_wants_a_table() {
+    let mut seat = seat(Config::plain());
+    for number in 0..65 {
+        let Bind::Bound { .. } = seat.bind(port(number), 1) else {
+            panic!("{number} isn't bound");
+        };
+    }
+    let Step::NotYet(bind) = seat.bind_once_in(port(65), 1, 1) else {
+        panic!("it wants a table");
+    };
+    assert_eq!(bind.finish(), BindOnce::Again { table: 1 });
+    assert!(matches!(seat.bind_in(port(65), 1, 1), Step::Ended(Bind::Bound { kick: false })));
+    assert_eq!(seat.count(), 66);
+}
+
 #[test]
 fn a_net_is_a_part_of_the_port() {
     let mut seat = seat(Config::plain());

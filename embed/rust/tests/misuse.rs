@@ -2,7 +2,7 @@
 //!
 //! What doesn't compile is shown by the examples at `Seat` and `Progress`.
 
-use rht::{Bind, Config, NotOpened, Port, Release, Seat, Step, Table, Work};
+use rht::{Bind, BindOnce, Config, NotOpened, Port, Release, Seat, Step, Table, Tidy, Work};
 
 fn port(number: u32) -> Port {
     Port::plain(number)
@@ -10,6 +10,16 @@ fn port(number: u32) -> Port {
 
 fn seats(callers: u32) -> Vec<Seat> {
     Table::open(Config { callers, ..Config::plain() }).expect("a table").seats
+}
+
+/// The reply of a call that has ended with its first step.
+macro_rules! ended {
+    ($step:expr) => {
+        match $step {
+            Step::Ended(reply) => reply,
+            step => panic!("{step:?}"),
+        }
+    };
 }
 
 #[test]
@@ -100,6 +110,76 @@ fn a_seat_closes_in_the_middle_of_a_call() {
     drop(first);
     assert_eq!(seats[0].find(port(80)), Some(100));
     assert_eq!(seats[0].release(port(80), 100), Release::Released { kick: false });
+}
+
+/// Without a round each of them stands before the lock, in its section, and holds no lock: another seat binds and
+/// releases there. What it takes out waits for that section.
+#[test]
+fn a_call_in_one_go_is_left_before_the_lock() {
+    let mut seats = seats(2);
+    let [one, two] = &mut seats[..] else {
+        panic!("two seats");
+    };
+    let Step::NotYet(bind) = one.bind_in(port(80), 100, 0) else {
+        panic!("a bind takes a lock");
+    };
+    assert_eq!(two.find(port(80)), None);
+    assert_eq!(ended!(two.bind_in(port(80), 200, 1)), Bind::Bound { kick: false });
+    assert_eq!(ended!(two.release_in(port(80), 200, 1)), Release::Released { kick: false });
+    let Tidy::Pending { caller: 0, .. } = two.tidy() else {
+        panic!("the bind is in its section");
+    };
+    assert_eq!(bind.finish(), Bind::Bound { kick: false });
+    assert_eq!(two.tidy(), Tidy::Clear { returned: 1 });
+    let Step::NotYet(bind) = one.bind_once_in(port(81), 101, 0) else {
+        panic!("a bind takes a lock");
+    };
+    assert_eq!(bind.finish(), BindOnce::Ended(Bind::Bound { kick: false }));
+    let Step::NotYet(release) = one.release_in(port(80), 100, 0) else {
+        panic!("a release takes a lock");
+    };
+    assert_eq!(two.find(port(80)), Some(100));
+    assert_eq!(release.finish(), Release::Released { kick: false });
+    assert_eq!(one.count(), 1);
+}
+
+/// Eleven operations lead a bind to the lock of the port's bucket, which it has then. Three rounds don't suffice for
+/// any other call there, and neither do five operations more, until the bind has gone on.
+#[test]
+fn a_call_in_one_go_leaves_off_at_a_lock() {
+    let mut seats = seats(4);
+    let [one, two, three, four] = &mut seats[..] else {
+        panic!("four seats");
+    };
+    assert_eq!(one.bind(port(80), 100), Bind::Bound { kick: false });
+    // They are declared before the call that has the lock. So should this panic, that one is finished first.
+    let (bind, once, release);
+    let locked = two.begin_bind(port(80), 200).go_on(10);
+    bind = one.bind_in(port(80), 300, 3).go_on(5);
+    once = three.bind_once_in(port(80), 400, 3).go_on(5);
+    release = four.release_in(port(80), 100, 3).go_on(5);
+    assert!(matches!(locked, Step::NotYet(_)));
+    assert!(matches!(bind, Step::NotYet(_)));
+    assert!(matches!(once, Step::NotYet(_)));
+    assert!(matches!(release, Step::NotYet(_)));
+    assert_eq!(locked.finish(), Bind::Exists { owner: 100 });
+    assert_eq!(bind.finish(), Bind::Exists { owner: 100 });
+    assert_eq!(once.finish(), BindOnce::Ended(Bind::Exists { owner: 100 }));
+    assert_eq!(release.finish(), Release::Released { kick: false });
+    assert_eq!(ended!(one.bind_in(port(80), 300, 1)), Bind::Bound { kick: false });
+}
+
+/// Calls that go in one go finish one that was forgotten, as all calls do.
+#[test]
+fn a_call_that_has_left_off_and_is_forgotten_is_finished_by_the_next_one() {
+    let mut seat = seats(1).remove(0);
+    std::mem::forget(seat.bind_in(port(80), 100, 0));
+    assert_eq!(ended!(seat.release_in(port(80), 100, 1)), Release::Released { kick: false });
+    std::mem::forget(seat.bind_once_in(port(81), 101, 0));
+    assert_eq!(ended!(seat.bind_in(port(80), 100, 1)), Bind::Bound { kick: false });
+    drop(seat.release_in(port(81), 101, 0));
+    assert_eq!(seat.find(port(81)), None);
+    assert_eq!(seat.count(), 1);
 }
 
 #[test]
