@@ -370,7 +370,10 @@ _FUNCTIONS = {
     "rht_count": (_U32, [_AT, _SAYS]),
     "rht_bind_begin": (_U32, [_AT, _Port, _U32, _SAYS]),
     "rht_bind_once_begin": (_U32, [_AT, _Port, _U32, _SAYS]),
+    "rht_bind_in": (_U32, [_AT, _Port, _U32, _U32, _SAYS]),
+    "rht_bind_once_in": (_U32, [_AT, _Port, _U32, _U32, _SAYS]),
     "rht_release_begin": (_U32, [_AT, _Port, _U32, _SAYS]),
+    "rht_release_in": (_U32, [_AT, _Port, _U32, _U32, _SAYS]),
     "rht_rebind_begin": (_U32, [_AT, _Port, _U32, _U32, _SAYS]),
     "rht_all_begin": (_U32, [_AT, _Port, _SAYS]),
     "rht_work_begin": (_U32, [_AT, _SAYS]),
@@ -428,6 +431,9 @@ _OF_TIDY = (_CLEAR, _PENDING)
 # How many operations a waiting call makes between two times that it yields.
 _OPERATIONS = 1024
 
+# How often a bind or a release tries to lock a bucket before it leaves off, and goes on as the other waiting calls.
+_ROUNDS = 64
+
 # The limit of a piece, where a whole walk is made.
 _PIECE = 256
 
@@ -476,7 +482,9 @@ class Seat:
     Calls: find, walk, tidy and count wait for nobody. bind, release, rebind, all, work and pairs may wait for another
     seat. They make some operations at a time and yield to other threads in between, so an exception as
     KeyboardInterrupt may break one off. Such a call is finished before the seat's next one, and its reply is lost.
-    A waiting call ends only if the threads go on for whose seats it waits.
+    A waiting call ends only if the threads go on for whose seats it waits. bind and release go in one go first, by one
+    call of the library. That has the reply, unless another seat holds the bucket's lock, or what is seldom has to be
+    done; then they go on as the others.
 
     Each call raises SeatClosed, SeatInUse or Forked where it isn't made, and ValueError or TypeError for a wrong
     argument. Owners are numbers of 32 bits.
@@ -527,7 +535,7 @@ class Seat:
             time.sleep(0)
 
     def _waited(self, begin, *args):
-        """The code of a call that may wait, and its numbers."""
+        """The code of a call that may wait, and its numbers. It begins by one operation, or in one go."""
         reply = _Reply()
         code = self._made(begin, *args, ctypes.byref(reply))
         if code == _NOT_YET:
@@ -556,16 +564,18 @@ class Seat:
     @_alone
     def bind(self, port, owner, once=False) -> Reply:
         """Binds a port to an owner: Bound, Exists, TooBig, Busy, NoTable, NoNode. With once it is tried once alone, and
-        may answer Again."""
-        begin = _lib.rht_bind_once_begin if once else _lib.rht_bind_begin
+        may answer Again. The kernel's function is rhashtable_insert_fast, with the look for the key of
+        rhashtable_lookup_insert_key."""
+        begin = _lib.rht_bind_once_in if once else _lib.rht_bind_in
         codes = _OF_BIND + (_AGAIN,) if once else _OF_BIND
-        return _told(*self._waited(begin, _port(port), _number(owner, 32, "an owner")), codes)
+        return _told(*self._waited(begin, _port(port), _number(owner, 32, "an owner"), _ROUNDS), codes)
 
     @_alone
     def release(self, port, owner) -> Reply:
-        """Takes one binding of the port to the owner out: Released, Absent."""
+        """Takes one binding of the port to the owner out: Released, Absent. The kernel's function is
+        rhashtable_remove_fast."""
         owner = _number(owner, 32, "an owner")
-        return _told(*self._waited(_lib.rht_release_begin, _port(port), owner), _OF_RELEASE)
+        return _told(*self._waited(_lib.rht_release_in, _port(port), owner, _ROUNDS), _OF_RELEASE)
 
     @_alone
     def rebind(self, port, owner, new) -> Reply:

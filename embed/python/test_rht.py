@@ -152,6 +152,85 @@ class Calls(unittest.TestCase):
         self.assertFalse(any([Idle(), Elsewhere(), Pending(1, 1)]))
 
 
+class InOneGo(unittest.TestCase):
+    """Binds and releases go in one go first. By the library's functions it is seen where they leave off."""
+
+    def begun_in(self, seat, name, number, owner, rounds):
+        """The code of a call in one go."""
+        function = getattr(rht._lib, name)
+        return function(seat._at, rht._Port(number, 0), owner, rounds, ctypes.byref(rht._Reply()))
+
+    def go_on(self, seat, operations):
+        return rht._lib.rht_go_on(seat._at, operations, ctypes.byref(rht._Reply()))
+
+    def with_a_lock(self):
+        """Two seats of a table in which port 80 is 7's. Eleven operations of a bind by the second one have led it to
+        the lock of that port's bucket, which it has. The table ends by turns, also where the test fails."""
+        table = rht.Table(callers=2)
+        self.addCleanup(table.end)
+        seat, other = table.seats
+        self.assertTrue(seat.bind(80, 7))
+        begin_bind(other, 80, 200)
+        self.assertEqual(self.go_on(other, 10), rht._NOT_YET)
+        return seat, other
+
+    def test_one_round_is_enough_where_nobody_is_in_the_way(self):
+        with rht.Table() as table:
+            (seat,) = table.seats
+            self.assertEqual(self.begun_in(seat, "rht_release_in", 80, 100, 1), rht._ABSENT)
+            self.assertEqual(self.begun_in(seat, "rht_bind_in", 80, 100, 1), rht._BOUND)
+            self.assertEqual(self.begun_in(seat, "rht_bind_in", 80, 200, 1), rht._EXISTS)
+            self.assertEqual(self.begun_in(seat, "rht_bind_once_in", 81, 101, 1), rht._BOUND)
+            self.assertEqual(self.begun_in(seat, "rht_release_in", 80, 100, 1), rht._RELEASED)
+            self.assertEqual((seat.find(80), seat.find(81)), (None, 101))
+
+    def test_a_seat_s_calls_end_without_going_on(self):
+        with rht.Table() as table, mock.patch.object(rht._lib, "rht_go_on", return_value=99):
+            (seat,) = table.seats
+            self.assertEqual(seat.bind(80, 100), Bound(False))
+            self.assertEqual(seat.bind(80, 200), Exists(100))
+            self.assertEqual(seat.bind(81, 101, once=True), Bound(False))
+            self.assertEqual(seat.release(80, 200), Absent())
+            self.assertEqual(seat.release(80, 100), Released(False))
+            self.assertRaises(rht.Misfit, seat.work)
+
+    def test_without_a_round_a_call_is_left_before_the_lock(self):
+        with rht.Table(callers=2) as table:
+            seat, other = table.seats
+            for name, owner, code in [
+                ("rht_bind_in", 100, rht._BOUND), ("rht_release_in", 100, rht._RELEASED),
+                ("rht_bind_once_in", 101, rht._BOUND),
+            ]:
+                self.assertEqual(self.begun_in(seat, name, 80, owner, 0), rht._NOT_YET)
+                for refused in ("rht_bind_in", "rht_bind_once_in", "rht_release_in"):
+                    self.assertEqual(self.begun_in(seat, refused, 80, owner, 1), rht._IN_CALL)
+                self.assertEqual(self.begun_in(other, "rht_release_in", 80, 7, 1), rht._ABSENT)
+                self.assertEqual(self.go_on(seat, 1), rht._NOT_YET)
+                self.assertEqual(self.go_on(seat, 1000), code)
+            self.assertEqual(other.find(80), 101)
+
+    def test_a_call_is_left_at_a_lock(self):
+        for name, code in [
+            ("rht_bind_in", rht._EXISTS), ("rht_bind_once_in", rht._EXISTS), ("rht_release_in", rht._RELEASED),
+        ]:
+            seat, other = self.with_a_lock()
+            self.assertEqual(self.begun_in(seat, name, 80, 7, 3), rht._NOT_YET)
+            self.assertEqual(self.go_on(seat, 5), rht._NOT_YET)
+            self.assertEqual(self.go_on(other, 1000), rht._EXISTS)
+            self.assertEqual(self.go_on(seat, 1000), code)
+
+    def test_a_seat_waits_for_a_lock(self):
+        for call, reply in [
+            (lambda seat: seat.bind(80, 100), Exists(7)), (lambda seat: seat.bind(80, 100, once=True), Exists(7)),
+            (lambda seat: seat.release(80, 7), Released(False)),
+        ]:
+            seat, other = self.with_a_lock()
+            codes = []
+            with mock.patch("rht.time.sleep", lambda _: codes.append(self.go_on(other, 1000))):
+                self.assertEqual(call(seat), reply)
+            self.assertEqual(codes, [rht._EXISTS])
+
+
 class Walks(unittest.TestCase):
     """Walks, in pieces and as a whole."""
 
@@ -426,7 +505,8 @@ class WrongUses(unittest.TestCase):
     def test_a_call_that_is_broken_off_is_finished(self):
         with rht.Table(callers=2) as table:
             seat, other = table.seats
-            with mock.patch.object(rht, "_OPERATIONS", 1), mock.patch("rht.time.sleep", side_effect=KeyboardInterrupt):
+            left_off = mock.patch.multiple(rht, _ROUNDS=0, _OPERATIONS=1)
+            with left_off, mock.patch("rht.time.sleep", side_effect=KeyboardInterrupt):
                 self.assertRaises(KeyboardInterrupt, seat.bind, 80, 100)
             self.assertEqual(seat.find(80), 100)
             begin_bind(seat, 81, 101)
@@ -452,7 +532,9 @@ class WrongUses(unittest.TestCase):
         with rht.Table() as table:
             (seat,) = table.seats
             for name, call in [
-                ("rht_find", lambda: seat.find(1)), ("rht_bind_begin", lambda: seat.bind(1, 1)),
+                ("rht_find", lambda: seat.find(1)), ("rht_bind_in", lambda: seat.bind(1, 1)),
+                ("rht_bind_once_in", lambda: seat.bind(1, 1, once=True)),
+                ("rht_release_in", lambda: seat.release(1, 1)),
                 ("rht_all_begin", lambda: seat.all(1)), ("rht_walk", seat.walk), ("rht_tidy", seat.tidy),
                 ("rht_count", seat.count), ("rht_close", seat.close), ("rht_open", rht.Table),
             ]:
@@ -548,7 +630,8 @@ class Threads(unittest.TestCase):
         with rht.Table(callers=2) as table:
             seat, other = table.seats
             replies = []
-            with mock.patch.object(rht, "_OPERATIONS", 1), mock.patch("rht.time.sleep", yielding):
+            left_off = mock.patch.multiple(rht, _ROUNDS=0, _OPERATIONS=1)
+            with left_off, mock.patch("rht.time.sleep", yielding):
                 thread = threading.Thread(target=lambda: replies.append(seat.bind(80, 100)))
                 thread.start()
                 self.assertTrue(yields.wait(10))
@@ -565,7 +648,8 @@ class Threads(unittest.TestCase):
     def test_a_call_within_a_call_is_refused(self):
         with rht.Table() as table:
             (seat,) = table.seats
-            with mock.patch.object(rht, "_OPERATIONS", 1), mock.patch("rht.time.sleep", lambda _: seat.count()):
+            left_off = mock.patch.multiple(rht, _ROUNDS=0, _OPERATIONS=1)
+            with left_off, mock.patch("rht.time.sleep", lambda _: seat.count()):
                 self.assertRaises(rht.SeatInUse, seat.bind, 80, 100)
             self.assertEqual(seat.count(), 1)
 
@@ -663,7 +747,7 @@ class Header(unittest.TestCase):
             name: (self.in_c(result), [self.in_c(kind) for kind in arguments])
             for name, (result, arguments) in rht._FUNCTIONS.items()
         }
-        self.assertEqual(len(there), 17)
+        self.assertEqual(len(there), 20)
         self.assertEqual(there, here)
 
     @unittest.skipUnless(shutil.which("cc"), "no C compiler here")
