@@ -46,7 +46,7 @@ TakenWasFree =
     → IsTakeAtIn m.geometry m.at → (take_node_after m old).1 ≡ Done (Some node)
     → IsTaking m.geometry node old (take_node_plan m)
 
--- the taking of a node, which begins with this word of the map and whose operations find these words
+-- a search for a free node from word `start` of the map on, whose operations find these words
 abbrev pub taking_ran : Geometry → ℕ → List ℕ → Ran (Option ℕ)
 taking_ran g start olds = ran take_node_plan take_node_after (take_node_from g start) olds
 
@@ -114,12 +114,12 @@ pub record SeesNext (g : Geometry) (next : ℕ) (step : Performed) (Behind : ℕ
   pub sees : SeesAllTaken g next end step
   pub behind : Behind end
 
--- from this node on, up to that one, each is seen taken in its turn: each operation sees the next ones taken, or none, and together all
+-- the nodes from `next` up to `until` are seen taken in order: each operation sees some of the next ones, or none, and together they see all
 abbrev pub AreSeenInTurn : Geometry → ℕ → ℕ → List Performed → Type 0
 AreSeenInTurn g next until [] = until ≤ next
 AreSeenInTurn g next until (step ∷ steps) = SeesNext g next step (λ end. AreSeenInTurn g end until steps)
 
--- in two stretches, of which no operation is in both: from this node on to the last one, and from the first one up to that one
+-- and so in two stretches with no operation in both: from `next` up to the last node, and from the first node up to `until`
 pub record AreSeenRound (g : Geometry) (next until : ℕ) (steps : List Performed) : Type 0 where
   pub front : List Performed
   pub rear : List Performed
@@ -127,14 +127,14 @@ pub record AreSeenRound (g : Geometry) (next until : ℕ) (steps : List Performe
   pub to_last : AreSeenInTurn g next g.nodes front
   pub from_first : AreSeenInTurn g 0 until rear
 
--- none is answered exactly where each node was seen taken in its turn, from the first of the word with which it began on
+-- no node is answered exactly where each was seen taken in order, from the first node of the search's first word on
 abbrev pub NoneWhereTakenInTurn : Type 0
 NoneWhereTakenInTurn =
     (g : Geometry) (start : ℕ) (olds : List ℕ) → start < map_words g.nodes
     → ((taking_ran g start olds).next ≡ Done None)
     ↔ AreSeenRound g (64 * start) (64 * start) (taking_ran g start olds).steps
 
--- who began with the first word comes to one word behind the other, and ends behind the last one
+-- a search from the first word on goes from each word to the next, and ends after the last one
 abbrev pub WordsInOrder : Type 0
 WordsInOrder =
     (m : TakeNodeModel) (index : ℕ) → m.start ≡ 0

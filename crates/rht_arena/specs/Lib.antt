@@ -12,7 +12,7 @@ pub mod TakeRun
 pub mod GiveRun
 -- what the other machines rely on: nodes
 pub mod Laws
--- in which order the words of the node map are looked at
+-- the order in which a search loads the words of the node map
 pub mod LookingOnce
 -- and runs of pages
 pub mod RunLaws

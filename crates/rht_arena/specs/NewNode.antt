@@ -18,7 +18,7 @@ pub record NewNodeModel : Type 0 where
   pub owner : ℕ
   pub at : NewNodeAt
 
--- it begins by taking a node, for which it looks from this word of the map on
+-- it begins by taking a node, with a search from word `start` of the map on
 abbrev pub new_node_from : Geometry → ℕ → ℕ → ℕ → NewNodeModel
 new_node_from g key owner start = record { geometry = g; key = key; owner = owner; at = at.Taking (take_node_from g start) }
 

@@ -17,7 +17,7 @@ pub record TakeNodeModel : Type 0 where
   pub start : ℕ
   pub at : TakeNodeAt
 
--- it begins with this word of the map
+-- it begins with word `start` of the map
 abbrev pub take_node_from : Geometry → ℕ → TakeNodeModel
 take_node_from g start = record { geometry = g; start = start; at = MapWord start }
 
@@ -33,11 +33,11 @@ plan_at g (Claim index bit) = And (place_of g (NodeMap index)) (bit_not w64 (bit
 abbrev pub take_node_plan : TakeNodeModel → Op
 take_node_plan m = plan_at m.geometry m.at
 
--- behind this word of the map comes that one, and behind the last one the first
+-- the word after this one in the search's order: the first after the last
 abbrev pub word_behind : Geometry → ℕ → ℕ
 word_behind g index = if nat_lt (index + 1) (map_words g.nodes) then index + 1 else 0
 
--- behind this word comes the next one; where that is the one with which the machine began, no node was free
+-- a word without a free node is followed by the next one; where that is the search's first word, no node was free
 abbrev pub next_word : TakeNodeModel → ℕ → TakeNodeModel × Next (Option ℕ)
 next_word m index =
     if word_behind m.geometry index == m.start then (m, Done None)

@@ -23,23 +23,23 @@ pub fn none_only_where_taken()
     ensures { NoneOnlyWhereTaken }
 {}
 
-/// None is answered exactly where each node was seen taken in its turn, which is the order of their
-/// numbers from the first one of the word with which the machine began: each operation sees the next
-/// ones taken, or none of them, and together they see all. Behind the last node comes the first one,
-/// and no operation sees nodes on both sides. So a node that was seen taken before its turn doesn't
-/// count, and where the operations so far have seen all in turn the machine has ended.
+/// No node is answered exactly where each was seen taken in order: by rising numbers from the first node
+/// of the search's first word up to the last node, and then from node 0 on. Each operation sees some of
+/// the next ones taken, or none, none sees nodes of both stretches, and together they see all. So a node
+/// that was seen taken before its turn doesn't count, and once the operations have seen all in order the
+/// search has ended.
 pub fn none_where_taken_in_turn()
     ensures { NoneWhereTakenInTurn }
 {}
 
-/// The words of the map are loaded one behind the other, from the one with which the machine began on,
-/// and behind the last one from the first on: each at most once. Where none is answered all were.
+/// A search loads the words of the map in order, from its first one up to the last and then from word 0
+/// on, each at most once. Where it finds no node it has loaded all of them.
 pub fn looks_once()
     ensures { LooksOnce }
 {}
 
-/// A machine that began with the first word goes on to the next word each time, and ends behind the
-/// last one: it never begins anew.
+/// A search that began with word 0 goes from each word to the next, and ends after the last one: it
+/// never wraps.
 pub fn words_in_order()
     ensures { WordsInOrder }
 {}

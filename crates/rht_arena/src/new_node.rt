@@ -55,7 +55,7 @@ impl NewNode {
         NewNode::from(geometry, key, owner, 0)
     }
 
-    /// Before a node is taken, for which it looks from this word of the map on.
+    /// Before a node is taken, with a search from word `start` of the map on.
     #[inline(always)]
     pub fn from(geometry: Geometry, key: u64, owner: u32, start: u32) -> NewNode
         requires { start < map_words geometry.nodes }

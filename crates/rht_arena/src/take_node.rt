@@ -1,5 +1,5 @@
-//! Taking a free node: the words of the node map are looked through from one on, each once, and the
-//! lowest bit that is seen set is cleared. Behind the last word comes the first.
+//! Taking a free node: a search goes through the words of the node map from a given one on, wraps after
+//! the last, and loads each at most once. It clears the lowest bit that it has found set.
 
 ghost use Rattle.std.specs.Prelude.{◌≡◌, ◌<◌, IfSome};
 ghost use Rattle.rht_words.specs.Operations.{op_place};
@@ -47,7 +47,7 @@ impl TakeNode {
         TakeNode::from(geometry, 0)
     }
 
-    /// Before this word of the map.
+    /// A search that begins with word `start` of the map.
     #[inline(always)]
     pub fn from(geometry: Geometry, start: u32) -> TakeNode
         requires { start < map_words geometry.nodes }
@@ -122,7 +122,7 @@ impl TakeNode {
     }
 }
 
-/// The word of the map behind this one; behind the last one the first.
+/// The word of the map after this one; after the last one the first.
 #[inline(always)]
 fn word_behind(geometry: Geometry, index: u32) -> u32
     requires { index < map_words geometry.nodes }

@@ -59,7 +59,7 @@ pub record BindModel : Type 0 where
   pub once : Bool
   pub at : BindAt
 
--- it begins with a new node of the port and the owner, for which it looks from this word of the map on
+-- it begins with a new node of the port and the owner, and a search for it from word `start` of the map on
 abbrev pub first_state : Env → ℕ → ℕ → ℕ → BindAt
 first_state env port owner start = at.Filling (new_node_from env.geometry (word_of port) owner (start_in env start))
 

@@ -253,7 +253,7 @@ impl<M: Mix> Bind<M> {
         Bind::from(env, caller, port, owner, once, 0)
     }
 
-    /// The same, where it looks for a free node from this word of the node map on.
+    /// The same with a search for a free node from word `start` of the node map on, where the table's ways let it.
     #[inline(always)]
     pub fn from(env: Env, caller: u32, port: Port, owner: u32, once: bool, start: u32) -> Bind<M>
         requires { caller < 16 }

@@ -70,7 +70,7 @@ pub record HasBegun (call : Call) (before : Handle) (reply_before : CReply) (cod
   pub told : IsTold answer code reply_before reply_after
   pub made : IsAnswered (Begins call) before answer after
 
--- a call was set out on, in one go, or that was refused
+-- a call was begun and made as far as it need not wait, or that was refused
 pub record HasSetOut (call : Call) (before : Handle) (reply_before : CReply) (code : ℕ) (reply_after : CReply) (after : Handle)
     : Type 0 where
   pub answer : Result (Option Reply) Refused

@@ -50,7 +50,7 @@ pub extern "C" fn rht_bind_once_begin(
     told(handle.begin(call), reply)
 }
 
-/// Binds a port in one go, as `Table::bind` does, with so many rounds at most at the lock of a bucket.
+/// Binds a port as `Table::bind` does, with at most `rounds` tries to lock a bucket.
 #[unsafe(no_mangle)]
 pub extern "C" fn rht_bind_in(
     handle: &mut Handle,
@@ -72,7 +72,7 @@ pub extern "C" fn rht_bind_in(
     told(handle.set_out(call, rounds), reply)
 }
 
-/// Binds a port once in one go, as `Table::bind_once` does, with so many rounds at most at the lock of a bucket.
+/// Binds a port as `Table::bind_once` does, with at most `rounds` tries to lock a bucket.
 #[unsafe(no_mangle)]
 pub extern "C" fn rht_bind_once_in(
     handle: &mut Handle,
@@ -110,7 +110,7 @@ pub extern "C" fn rht_release_begin(
     told(handle.begin(Call::Release { port, owner }), reply)
 }
 
-/// Takes a binding out in one go, as `Table::release` does, with so many rounds at most at the lock of a bucket.
+/// Takes a binding out as `Table::release` does, with at most `rounds` tries to lock a bucket.
 #[unsafe(no_mangle)]
 pub extern "C" fn rht_release_in(
     handle: &mut Handle,

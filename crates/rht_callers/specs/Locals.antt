@@ -65,8 +65,8 @@ module _ {M : Type 0} where
   tidying_of env None = None
   tidying_of env (Some batch) = Some (Tidying (tidy_new env.geometry batch))
 
-  -- what a caller does that has this batch and is given a call, and the word of the node map from which on it is to look for a free
-  -- node; none for a tidying without a batch
+  -- what a caller with this batch does that is given a call, whose search for a free node is to begin at word `start`; none for a tidying
+  -- without a batch
   abbrev pub machine_from : Env → ℕ → Option BatchModel → Call → ℕ → Option (Doing M)
   machine_from env caller batch (Find port) start = Some (Finding (find_new env caller port))
   machine_from env caller batch (Bind port owner once) start = Some (Binding (bind_from env caller port owner once start))
@@ -78,7 +78,7 @@ module _ {M : Type 0} where
   machine_from env caller batch (Walk from limit) start = Some (Walking (walk_new env caller from limit (room_for_nodes env)))
   machine_from env caller batch Count start = Some (Counting (record { env = env }))
 
-  -- the same from the first word on
+  -- the same with a search from the first word on
   abbrev pub machine_of : Env → ℕ → Option BatchModel → Call → Option (Doing M)
   machine_of env caller batch call = machine_from env caller batch call 0
 
@@ -210,18 +210,19 @@ module _ {M : Type 0} where
   pairs_after (Tidying m) room old = room
   pairs_after (Walking m) room old = pairs_given (walk_after m old) room
 
--- ---- operations in a hold
+-- ---- operations of a caller that holds its section open
 
 -- the operation adds 1 to a section word
 abbrev pub turns_section : ℕ → ℕ → Bool
 turns_section place by = nat_le 8 place && nat_lt place 24 && by == 1
 
--- what an operation is that a machine plans: while its caller holds a section open, one that would turn the section loads its word
+-- the operation made for the one that a machine plans: while its caller holds its section open, one that would open or close the section
+-- loads its word in its place
 abbrev pub soft : Bool → Op → Op
 soft over (Add place by) = if turns_section place by && over then Load place else Add place by
 soft over op = op
 
--- the call may be made so: while its caller holds a section open it looks a port up, walks, or reads the count
+-- the caller may make the call: any, or while it holds its section open a look-up, a walk or a reading of the count
 abbrev pub may_hold : Bool → Call → Bool
 may_hold false call = true
 may_hold true (Find port) = true

@@ -1,5 +1,5 @@
--- For whom calls wait: at which other caller's section word they look. Tidyings do, and resizings where they ask whether a retired table may be
--- given back, and where they keep section words at the retiring of one. No other call looks at one, so it waits for no section but its own.
+-- Which calls load another caller's section word, and so may wait for its section: tidyings, and resizings where they ask whether a retired
+-- table may be given back or keep the section words when they retire one. No other call does, so none waits for a reader.
 use Rattle.std.specs.Prelude.{◌≡◌, ◌≢◌, ℕ, ◌%◌, ◌<◌, ◌⊎◌, Some, List, [], ◌∷◌, ◌++◌, length, map, take}
 use Rattle.rht_words.specs.declared.env.Env.{Env}
 use Rattle.rht_words.specs.declared.geometry.Geometry.{Geometry}
@@ -21,8 +21,8 @@ use Rattle.rht_core.specs.Runs.{IsAdmitted}
 use Rattle.rht_core.specs.Traces.{Did, Traced, performed_of, traced_of}
 use Rattle.rht_core.specs.WorkCauses.{TakesWorkLock}
 
--- The call took the work lock first. It has found that the table in a slot is retired, and since then, of each caller before this one and in
--- order, that it has left. And it has just loaded the word that is kept of this one there, which is odd.
+-- The call's first operation took the work lock. It has found the table in a slot retired, and has since found of each caller before `d`, in
+-- order, that it has left its section. It has just loaded the section word kept for `d` in that slot, which is odd.
 pub record AsksReader (g : Geometry) (d : ℕ) (before : List Did) : Type 0 where
   pub lock : Did
   pub behind : List Did
@@ -38,8 +38,8 @@ pub record AsksReader (g : Geometry) (d : ℕ) (before : List Did) : Type 0 wher
   pub odd : kept % 2 ≡ 1
   pub asked : Joined (AreOutside g slot 0 d) (λ now. now ≡ returned.did (kept_load g slot d) kept ∷ []) (map performed_of since)
 
--- The call has retired the table in a slot, and since then has kept the section words of the callers before this one there, in order. It has
--- done nothing else since.
+-- The call has retired the table in a slot, and has since kept the section words of the callers before `d` there, in order, and done nothing
+-- else.
 pub record KeepsReader (g : Geometry) (d : ℕ) (before : List Did) : Type 0 where
   pub slot : ℕ
   pub sooner : List Did
@@ -51,13 +51,13 @@ pub record KeepsReader (g : Geometry) (d : ℕ) (before : List Did) : Type 0 whe
   pub each : length founds ≡ d
   pub kept : map performed_of since ≡ kept_steps g slot 0 founds
 
--- why a call that has made these operations looks at this caller's section word
+-- why a call that has made these operations may load the section word of `d`
 abbrev pub LooksCause : Geometry → Call → ℕ → List Did → Type 0
 LooksCause g Tidy d before = Unit {0}
 LooksCause g Work d before = AsksReader g d before ⊎ KeepsReader g d before
 LooksCause g _ d before = ⊥
 
--- it loads that word, and has a cause, by what the caller has done so far in the call that it is in
+-- the operation loads that word, with a cause in what its call has done so far
 pub record LooksRightly {M : Type 0} (g : Geometry) (r : Traced M) (c d : ℕ) (did : Did) : Type 0 where
   pub loads : did.op ≡ Load (place_of g (Section d))
   pub call : Call
@@ -65,7 +65,7 @@ pub record LooksRightly {M : Type 0} (g : Geometry) (r : Traced M) (c d : ℕ) (
   pub cause : LooksCause g call d (r.traces c).steps
 
 module _ (M : Type 0) (mix : ℕ → ℕ → ℕ → ℕ) where
-  -- in every run so it is of each operation on another caller's section word
+  -- in every run that holds of each operation on another caller's section word
   abbrev pub Awaited : Type 0
   Awaited =
       (env : Env) (events : List Event) (c d : ℕ) (did : Did) → IsAdmitted events → d < 16 → d ≢ c

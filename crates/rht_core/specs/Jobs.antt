@@ -85,7 +85,7 @@ abbrev pub first_tidy : Option BatchModel → Option Job
 first_tidy None = None
 first_tidy (Some batch) = Some (tidying (tidy.begun batch))
 
--- it is that of a caller who has this batch, and looks for a free node from this word on
+-- it is that of a caller with this batch, whose search for a free node is to begin at word `start`
 abbrev pub first_job : Env → Option BatchModel → Call → ℕ → Option Job
 first_job env batch (Find port) start = Some (finds port Opening)
 first_job env batch (Bind port owner once) start = Some (binds port owner once (bind.first_state env port owner start))

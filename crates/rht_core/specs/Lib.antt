@@ -40,9 +40,9 @@ pub mod Standings
 pub mod Reach
 -- what is so of pages and slots that are free
 pub mod Free
--- what a call that tidies gives back, and what others leave of a batch
+-- what a tidying gives back, and what other calls leave of a batch
 pub mod Tidied
--- which removals a tidying hands out, and that open sections came behind them
+-- which removals a tidying hands out, and that sections still open then were opened after them
 pub mod Removals
 -- what a call gives back of retired tables
 pub mod Returned
@@ -50,7 +50,7 @@ pub mod Returned
 pub mod Shown
 -- who is in no read section
 pub mod Sections
--- and for whose section a call waits
+-- for whose section a call waits
 pub mod Awaited
 -- what the count of ports counts, and a table that nobody uses
 pub mod Counts

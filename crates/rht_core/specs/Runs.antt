@@ -58,7 +58,8 @@ module _ {M : Type 0} where
   abbrev pub local_of : Core M → ℕ → Local M
   local_of core c = local_in core.env core.locals c
 
-  -- what a caller does that is given this call, and the word from which on it is to look for a free node; none where it isn't enrolled or is in a call, or where a tidying has no batch
+  -- what a caller does that is given this call, with a search for a free node from word `start` on; none where it isn't enrolled or may not
+  -- begin the call, or where a tidying has no batch
   abbrev pub beginning : Env → ℕ → List (Local M) → ℕ → Call → ℕ → Option (Doing M)
   beginning env enrolled locals c call start =
       if nat_lt c enrolled && may_begin (local_in env locals c) call then machine_from env c (local_in env locals c).batch call start else None

@@ -1,5 +1,5 @@
--- What a call that tidies gives back, and why one waits, in every run. Each other call leaves its caller's batch, but for the node that it takes
--- out. And a caller in no call keeps the batch that its last call left.
+-- What a tidying gives back, and why one waits, in every run. Each other call leaves its caller's batch as it was, but for the node that it
+-- takes out. A caller in no call has the batch that its last call left.
 use Rattle.std.specs.Prelude.{◌≡◌, ◌≢◌, ◌↔◌, ℕ, ◌+◌, ◌<◌, ◌++◌, true, false, List, [], ◌∷◌, length, map, take, Option, Some, None}
 use Rattle.std.specs.List.{AllByRecursion, Any, slice_get}
 use Rattle.rht_words.specs.declared.env.Env.{Env}
@@ -44,7 +44,7 @@ RemovesAt (Release port owner) at = port ≡ at
 RemovesAt (Rebind port owner new) at = port ≡ at
 RemovesAt _ at = ⊥
 
--- where these are the words before the event with each number: the operation took this node out of the list of this port
+-- with `words_at` for the words before each event: the operation took this node out of the list of this port
 pub record TakesNodeOut (g : Geometry) (words_at : ℕ → List ℕ) (port node : ℕ) (did : Did) : Type 0 where
   pub before : In node (nodes_of g (words_at did.index) port)
   pub behind : ¬ In node (nodes_of g (words_at (did.index + 1)) port)
@@ -55,8 +55,8 @@ pub record HasTakenOut (g : Geometry) (words_at : ℕ → List ℕ) (call : Call
   pub removes : RemovesAt call port
   pub takes : Any (TakesNodeOut g words_at port node) steps
 
--- A call that is no tidying leaves the nodes that wait, and the words that are kept for them. The fresh ones stay, in order. Behind them
--- comes the one that the call has taken out, exactly where the reply says that one was.
+-- A call that is no tidying leaves the nodes that wait and the section words kept for them. The fresh nodes stay, in order; the node that the
+-- call took out follows them, exactly where the reply says that it took one out.
 pub record KeepsBatch (g : Geometry) (words_at : ℕ → List ℕ) (before after : BatchModel) (past : Past) : Type 0 where
   pub waiting : after.waiting ≡ before.waiting
   pub kept : after.kept ≡ before.kept
@@ -101,7 +101,7 @@ module _ (M : Type 0) (mix : ℕ → ℕ → ℕ → ℕ) where
       slice_get ended i ≡ Some last → length ended ≡ i + 1
       → batch_of (run_of {M = M} mix env events).core c ≡ batch_before env events c (behind_call last)
 
-  -- in every run each call that has ended and is no tidying has kept its caller's batch
+  -- in every run each ended call that is no tidying has kept its caller's batch so
   abbrev pub Kept : Type 0
   Kept =
       (env : Env) (events : List Event) (c : ℕ) → IsAdmitted events

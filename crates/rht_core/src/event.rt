@@ -10,8 +10,8 @@ pub enum Event {
     /// is one from now on.
     Enroll,
     /// A caller is given a call, without an operation. Nothing happens where it has one already,
-    /// or isn't enrolled. A call that takes a node looks for a free one from this word of the node map
-    /// on, where the table's ways let it.
+    /// or isn't enrolled. A call that takes a node begins its search at word `start` of the node map,
+    /// where the table's ways let it.
     Begin { caller: u32, call: Call, start: u32 },
     /// A caller performs the operation that it plans. Nothing happens where it has no call.
     Step { caller: u32 },

@@ -281,40 +281,38 @@ pub fn at_rest<M: Mix>()
 ///
 /// A caller in no call has the batch that its last call left, whatever others have done since.
 ///
-/// And each call that has ended and is no tidying leaves the nodes that wait, and the section words that are kept for
-/// them. The fresh nodes stay, in order; behind them comes the node that the call took out, exactly where the reply
-/// says that one was. It was in the list of the call's port by the words before one of the call's operations, and isn't
-/// by those behind it. So what waits is given back by tidyings alone, and none of it waits anew. It doesn't say whose
-/// node of the list it is.
+/// Each ended call that is no tidying leaves the nodes that wait and the section words kept for them. The fresh nodes
+/// stay, in order; the node that the call took out follows them, exactly where the reply says that it took one out. It
+/// was in the list of the call's port before one of the call's operations, and not after it. So nodes that wait are
+/// given back by tidyings alone, and no grace period begins anew. The law doesn't say whose node of the list it was.
 pub fn tidied<M: Mix>()
     ensures tidied { Tidied M M.mix_of }
     ensures rests { Rests M M.mix_of }
     ensures kept { Kept M M.mix_of }
 {}
 
-/// In every run what a caller's calls took out goes with the nodes of its batch. A removal is a call that was answered
-/// `Released` or `Rebound`, and stands for the binding that it took out: its port and owner, of a rebind the old one.
-/// A caller's removals come behind each other as its calls do. A tidying takes what is due, or all that is fresh where
-/// nothing is: where it is answered `Clear` it hands that out, and where it is answered `Pending` that is due then.
-/// While the caller is in no call, as many removals are fresh as fresh nodes in its batch, and as many are due as nodes
-/// that wait. And a tidying that was answered `Clear` has handed out as many as it says.
+/// In every run the bindings that a caller's calls took out go with the nodes of its batch. A removal is a call that
+/// was answered `Released` or `Rebound`; its binding is its port and owner, of a rebind the old one. A caller's
+/// removals keep the order of its calls. A tidying takes those that are due, or all fresh ones where none is: answered
+/// `Clear` it hands them out, and answered `Pending` they are due from then on. While the caller is in no call, as many
+/// removals are fresh as its batch has fresh nodes, and as many are due as nodes wait. A tidying that was answered
+/// `Clear` handed out as many as it says.
 ///
-/// Which these are goes by the replies of the caller's calls alone. What is handed out as bindings is of each removal
-/// that is handed out its binding. It doesn't say that nobody could come to what is
-/// handed out, which `grace` does.
+/// The replies of the caller's calls alone say which these are, and the bindings handed out are those of the removals
+/// handed out, in order. That no reader can still come to them is `grace`.
 pub fn handed<M: Mix>()
     ensures as_many { Handed M M.mix_of }
     ensures out { HandsOut M M.mix_of }
     ensures bindings { AreRemoved M M.mix_of }
 {}
 
-/// In every run, of a tidying that was answered `Clear`: a caller that is in its read section behind the tidying's last
-/// operation has opened it behind the end of each removal that the tidying hands out, as `handed` has it. Before that
-/// the caller's section word was even, and since then it is the same. So what such a caller has found in this section
-/// it found behind these removals, whatever it does with it.
+/// In every run, of a tidying that was answered `Clear`: a caller that is in its read section after the tidying's last
+/// operation opened it after the end of each removal that the tidying handed out (`handed`). Before that its section
+/// word was even, and since then it is the same. So whatever such a caller has found in this section it found after
+/// these removals.
 ///
-/// It speaks of section words and not of what a caller could reach, which `safe` does. So it says nothing of who opens
-/// a section later, nor that a binding wasn't made again meanwhile, and not that a tidying is ever answered so.
+/// The law speaks of section words; what a caller could reach is for `safe`. It says nothing of sections opened later,
+/// of bindings made again meanwhile, nor that a tidying is ever answered `Clear`.
 pub fn grace<M: Mix>()
     ensures { Grace M M.mix_of }
 {}
@@ -365,14 +363,14 @@ pub fn sections<M: Mix>()
 {}
 
 /// In every run no call but a tidying and a resizing operates on the section word of another caller, and these load it.
-/// So no other call waits for a section, also where it is in progress for good.
+/// So no other call waits for a reader, even one that never ends.
 ///
-/// A resizing does so in two places. It took the work lock first, and has found that a table is retired; since then, of
-/// each caller before this one and in order, it has found that it has left that, and it has just loaded the word that
-/// is kept of this one in the slot, which is odd. Or it has retired a table, and since then has kept the section words
-/// of the callers before this one in the slot, and done nothing else. So it looks at each word once for a table.
+/// A resizing does so in two places. Either its first operation took the work lock, and it has found a table retired
+/// and since then, of each caller before this one and in order, that it has left its section; it has just loaded the
+/// section word kept for this one, which is odd. Or it has retired a table, and since then has kept the section words of
+/// the callers before this one, in order, and done nothing else.
 ///
-/// It says nothing of locks, for which binds, releases and rebinds do wait, nor what a call makes of the words.
+/// The law says nothing of locks, for which binds, releases and rebinds wait, nor of what a call makes of the words.
 pub fn awaited<M: Mix>()
     ensures { Awaited M M.mix_of }
 {}

@@ -55,7 +55,8 @@ pub record Headline (left left_after held held_after : Option (List ℕ)) : Type
       ((run_of {M = tag_of script.config.hash} (mix_named script.config) run.env run.events).books caller).finished
   -- and it leaves the last bindings
   pub leaves : Lists last.bindings.pairs (bindings_left script.config.kind unbound (history_of history))
-  -- in every such run look-ups find what stays bound, and nothing comes back that a reader could reach
+  -- In every such run look-ups find what stays bound, and nothing comes back that a reader could reach. A run is such only with these very
+  -- replies, kicks included, which the text doesn't show.
   pub every : (such : IsServedRun (tag_of script.config.hash) (mix_named script.config) script.config script.auto script.commands
       replies last)
       → FindsAndSpares (tag_of script.config.hash) (mix_named script.config) such.env such.events

@@ -40,7 +40,7 @@ pub record RebindModel : Type 0 where
   pub new_owner : ℕ
   pub at : RebindAt
 
--- it begins with a new node of the port and the new owner, for which it looks from this word of the map on
+-- it begins with a new node of the port and the new owner, and a search for it from word `start` of the map on
 abbrev pub first_state : Env → ℕ → ℕ → ℕ → RebindAt
 first_state env port new start = at.Filling (new_node_from env.geometry (word_of port) new (start_in env start))
 

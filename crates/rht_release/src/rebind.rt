@@ -146,7 +146,7 @@ impl<M: Mix> Rebind<M> {
         Rebind::from(env, caller, port, owner, new, 0)
     }
 
-    /// The same, where it looks for a free node from this word of the node map on.
+    /// The same with a search for a free node from word `start` of the node map on, where the table's ways let it.
     #[inline(always)]
     pub fn from(env: Env, caller: u32, port: Port, owner: u32, new: u32, start: u32) -> Rebind<M>
         requires { caller < 16 }

@@ -110,8 +110,7 @@ abbrev pub Turned : {M : Type 0} → (ℕ → ℕ → ℕ → ℕ) → Table M �
 Turned mix t call steps before reply now =
     MatchOption reply (IsCalling mix t call steps before now) (λ answer. HasCalled mix t call answer before now)
 
--- the pass has made operations of this call, from its first one on, in one go: they have ended it with this reply, or the pass is
--- in the middle of it
+-- the pass has made some operations of this call, from its first one on: they ended it with this reply, or the pass is in the middle of it
 pub record HasSetOut {M : Type 0} (mix : ℕ → ℕ → ℕ → ℕ) (t : Table M) (call : Call) (before : Pass M) (reply : Option Reply)
     (now : Pass M)
     : Type 0 where

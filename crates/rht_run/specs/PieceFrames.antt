@@ -66,7 +66,7 @@ module _ {M : Type 0} where
   bind_at env caller port owner once at =
       Binding (record { env = env; caller = caller; port = port; owner = owner; once = once; at = at })
 
-  -- and in straight code it has come to this reply, or was left here
+  -- straight code has brought it to this reply, or left it in this state
   abbrev pub bind_came : Env → ℕ → ℕ → ℕ → Bool → Result Reply BindAt → Doing M × Option (Reply × Option ℕ)
   bind_came env caller port owner once came = come_to (λ at. bind_at env caller port owner once at) replied came
 

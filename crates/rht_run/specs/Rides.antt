@@ -168,7 +168,7 @@ abbrev pub piece_next : {M P A : Type 0} → (P → Doing M) → (A → Doing M 
 piece_next holding behind (piece, Go) = (holding piece, None)
 piece_next holding behind (piece, Done answer) = behind answer
 
--- a piece that is driven in straight code comes to its answer, or is left where it stands
+-- straight code has brought a piece to its answer, or left it in the state that it answers
 abbrev pub come_to : {M P A : Type 0} → (P → Doing M) → (A → Doing M × Option (Reply × Option ℕ)) → Result A P
     → Doing M × Option (Reply × Option ℕ)
 come_to holding behind (Ok answer) = behind answer

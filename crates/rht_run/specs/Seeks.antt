@@ -136,7 +136,7 @@ module _ {M : Type 0} where
   release_seeking env caller port owner (seek, Done None) = refl
   release_seeking env caller port owner (seek, Done (Some found)) = refl
 
-  -- and in straight code it has come to its end, with this node taken out, or none; or it was left here
+  -- straight code has brought it to its end, with this node taken out or none, or left it in this state
   abbrev pub release_came : Env → ℕ → ℕ → ℕ → Result (Option Bool × Option ℕ) ReleaseAt → Doing M × Option (Reply × Option ℕ)
   release_came env caller port owner came =
       come_to (λ at. release_at env caller port owner at) (λ (end : Option Bool × Option ℕ). ended (released end.0, end.1)) came

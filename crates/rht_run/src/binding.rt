@@ -39,9 +39,9 @@ use rht_words::{Env, Kind, Port, Shape, link_of, owner_of, slot_of, table_of, wo
 const FULL_CHAIN: u32 = 16;
 
 impl<M: Mix> Table<M> {
-    /// Binds the port, from the first operation on. It answers the reply; or where the bind was left: at the
-    /// lock of a bucket that it didn't have in so many rounds, before the entries of a nested table, or once
-    /// it has unlocked a bucket into which its node doesn't go.
+    /// Binds the port, from the first operation on. It answers the reply, or the state in which it left the
+    /// bind: at a bucket's lock that it didn't get in `rounds` rounds, before the entries of a nested table, or
+    /// after it has unlocked a bucket into which its node doesn't go.
     #[inline(never)]
     pub(crate) fn drive_bind<K: Ride>(
         &self,
@@ -315,8 +315,8 @@ impl<M: Mix> Table<M> {
         reply
     }
 
-    /// Leaves a bind before the entries of a nested table. It answers what the bind does, as the three functions
-    /// below: the compiler keeps room for each answer that is made into another one.
+    /// Leaves a bind before the entries of a nested table. It answers the whole `Result`, as the three functions
+    /// below do: at the entry of `drive_bind` the compiler clears room for each answer that is wrapped there.
     #[cold]
     #[inline(never)]
     fn bind_nested<K: Ride>(
@@ -361,7 +361,7 @@ impl<M: Mix> Table<M> {
         Err(BindAt::Filling { new })
     }
 
-    /// Leaves a bind behind so many tables.
+    /// Leaves a bind after 2^64 - 1 tables, which no run has.
     #[cold]
     #[inline(never)]
     fn bind_left<K: Ride>(

@@ -19,9 +19,9 @@ use rht_policy::Mix;
 use rht_words::{Next, Start, head_of, is_locked, node_of};
 
 impl<M: Mix> Table<M> {
-    /// Locks the bucket at this place, in so many rounds at most, and walks its chain to the first node with
-    /// the key. Where the lock wasn't had in these rounds, or behind 2^64 - 1 nodes, which no run has, it
-    /// leaves off, and gives the probe as it stands there.
+    /// Locks the bucket at this place, in at most `rounds` rounds, and walks its chain to the first node with
+    /// the key. Where it doesn't get the lock in these, or after 2^64 - 1 nodes, which no run has, it stops,
+    /// and gives the probe as it stands there.
     #[inline(always)]
     pub(crate) fn probe<K: Ride, F: Frame<M, Probe, Probed>>(
         &self,
@@ -56,9 +56,9 @@ impl<M: Mix> Table<M> {
         }
     }
 
-    /// Takes the lock of the bucket at this place, in so many rounds at most. A round ends without it where
+    /// Takes the lock of the bucket at this place, in at most `rounds` rounds. A round ends without it where
     /// the word was found locked, or was another one at the exchange. Each round begins with the lock's
-    /// first state, so the compiler keeps no state of it. There the lock stands behind the last one, too.
+    /// first state, so the compiler keeps no state of it; after the last one the lock is in that state too.
     #[inline(always)]
     pub(crate) fn take_lock<K: Ride, F: Frame<M, Lock, Locked>>(
         &self,

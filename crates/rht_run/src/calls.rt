@@ -54,10 +54,9 @@ impl<M: Mix> Table<M> {
         self.go::<Brand>(pass, None)
     }
 
-    /// Sets out on a call: makes its operations in one go, as long as it waits for nobody. At the lock of a
-    /// bucket it looks so many times at most whether that can be had. Then it leaves off, as it does before
-    /// a way that is seldom taken. A reply ends the call. Without one the pass is in it, and goes on by
-    /// `step`. It takes no memory.
+    /// Begins a call and makes its operations in straight code, as long as it need not wait. It tries to lock
+    /// a bucket at most `rounds` times; then it stops, as it does before a rare way. A reply ends the call;
+    /// without one the pass is in it, and goes on by `step`. It takes no memory.
     #[inline(always)]
     pub fn set_out(&self, pass: &mut Pass<M>, call: Call, rounds: u64) -> Option<Reply>
         requires pass { IsPassOf M.mix_of self.now pass.old }
@@ -340,8 +339,8 @@ impl<M: Mix> Table<M> {
         self.tidied(pass)
     }
 
-    /// Tidies. Behind the first operation its machine is held beside the pass, which gets its batch back at the
-    /// end. It has no more operations than so many, so nothing stands behind its loop.
+    /// Tidies. After the first operation its machine is held beside the pass, which gets its batch back at the
+    /// end. A tidying has at most `most` operations, so nothing follows its loop.
     fn tidied(&self, pass: &mut Pass<M>) -> Reply
         requires pass { IsPassOf M.mix_of self.now pass.old }
         requires idle { is_idle pass.old.local ≡ true }

@@ -23,7 +23,7 @@ use rht_words::{Next, Port, word_of};
 
 impl<M: Mix> Table<M> {
     /// Begins a call that takes a free node and fills it, and does so. It answers that node, or that none
-    /// is free. Behind 2^64 - 1 rounds, which no run uses up, it leaves off, and answers where.
+    /// is free. After 2^64 - 1 rounds, which no run uses up, it stops, and answers the state.
     #[inline(always)]
     pub(crate) fn begin_with_node<K: Ride, F: Frame<M, NewNode, Option<u32>>>(
         &self,
@@ -61,7 +61,7 @@ impl<M: Mix> Table<M> {
 
     /// Goes over the words of the node map in which no bit is set, once the first word was looked at.
     /// By the test for 0 the compiler sees that no node is claimed in this loop, and keeps no state of
-    /// the taking but the word's number. It ends behind 2^64 - 1 rounds, which no run uses up.
+    /// the taking but the word's number. It ends after 2^64 - 1 rounds, which no run uses up.
     #[inline(always)]
     fn pass_over<K: Ride, F: Frame<M, NewNode, Option<u32>>>(
         &self,

@@ -29,8 +29,8 @@ use rht_words::{Env, Port, link_of, node_of, table_of};
 
 impl<M: Mix> Table<M> {
     /// Takes the binding out, from the first operation on. It answers whether `work` has something to do, or
-    /// that there is no such binding, and the node that was taken out; or where the release was left: at the
-    /// lock of a bucket that it didn't have in so many rounds, or before the entries of a nested table.
+    /// that there is no such binding, and the node that was taken out; or the state in which it left the
+    /// release: at a bucket's lock that it didn't get in `rounds` rounds, or before the entries of a nested table.
     #[inline(never)]
     pub(crate) fn drive_release<K: Ride>(
         &self,

@@ -140,8 +140,8 @@ impl<M: Mix> Frame<M, OwnerSearch, OwnerSought> for RebindSearching {
 }
 
 impl<M: Mix> Table<M> {
-    /// Looks for the first node with the owner, from this node of the port's list on. Behind 2^64 - 1 nodes,
-    /// which no run has, it leaves off, and gives the search as it stands there.
+    /// Looks for the first node with the owner, from this node of the port's list on. After 2^64 - 1 nodes,
+    /// which no run has, it stops, and gives the search as it stands there.
     #[inline(always)]
     pub(crate) fn search<K: Ride, F: Frame<M, OwnerSearch, OwnerSought>>(
         &self,

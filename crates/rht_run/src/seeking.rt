@@ -33,8 +33,8 @@ pub enum Sought {
 
 impl<M: Mix> Table<M> {
     /// Goes from the table of this slot through the futures to the bucket in which the port is found, or
-    /// to the first table that is nested. It leaves off where it didn't have the lock of a bucket in so
-    /// many rounds, and behind 2^64 - 1 tables, which no run goes through.
+    /// to the first table that is nested. It stops where it didn't get the lock of a bucket in `rounds` rounds,
+    /// and after 2^64 - 1 tables, which no run goes through.
     #[inline(always)]
     pub(crate) fn seek<K: Ride, F: Frame<M, PortSeek, (Port, Option<FoundPort>)> + Copy>(
         &self,

@@ -346,8 +346,9 @@ impl<M: Mix> Table<M> {
     }
 }
 
-/// How many operations a walk makes at most. A table has up to 2^18 buckets. Each takes two entries on
-/// the way there, its word, three words for each node, and a look for a table behind.
+/// How many operations a walk makes at most. The word of a shape can say up to 2^18 buckets, though no
+/// table is made with more than 2^17. Each bucket takes two entries on the way there, its word, three words
+/// for each node, and a look for a table behind.
 fn most_operations(geometry: Geometry) -> u64
     ensures { result ≡ walk_bound geometry 262144 }
 {

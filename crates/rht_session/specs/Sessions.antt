@@ -49,7 +49,7 @@ pub record HasBegun {M : Type 0} (mix : ℕ → ℕ → ℕ → ℕ) (t : Table 
   pub come_to : HasComeTo mix t call 1 before reply now
   pub one : HasGone mix t (Some call) before reply now
 
--- The pass has set out on this call: by operations in one go, which have ended it, or left it in the middle. What follows is as behind
+-- The pass has begun this call and made some operations of it, which ended it or left the pass in the middle. From there it goes on as after
 -- any operation of the call.
 pub record HasSetOut {M : Type 0} (mix : ℕ → ℕ → ℕ → ℕ) (t : Table M) (call : Call) (before : Pass M) (reply : Option Reply) (now : Pass M)
     : Type 0 where
@@ -129,7 +129,7 @@ LooksUp port reply = Does (λ M mix t before now. HasLookedUp mix t port reply b
 abbrev pub Begins : Call → Option Reply → Session → Session → Type 0
 Begins call reply = Does (λ M mix t before now. HasBegun mix t call before reply now)
 
--- the session has set out on this call, and may have ended it with that
+-- the session has begun this call and made some operations of it, which may have ended it
 abbrev pub SetsOut : Call → Option Reply → Session → Session → Type 0
 SetsOut call reply = Does (λ M mix t before now. HasSetOut mix t call before reply now)
 

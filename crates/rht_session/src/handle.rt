@@ -162,7 +162,7 @@ impl Handle {
         Ok(self.address.session().begin(call))
     }
 
-    /// Sets out on a call, as `Session::set_out`. Refused are `NotOpen` and `InCall`.
+    /// Begins a call, as `Session::set_out`. Refused are `NotOpen` and `InCall`.
     #[inline(always)]
     pub fn set_out(&mut self, call: Call, rounds: u32) -> Result<Option<Reply>, Refused>
         requires { IsFitHandle self.old }

@@ -122,9 +122,9 @@ impl Session {
         }
     }
 
-    /// Sets out on a call, in one go: it makes its operations as long as it need not wait for another caller,
-    /// and looks so many times at most whether a bucket's lock can be had. A reply ends the call; without one
-    /// the session is in it, and `go_on` goes on.
+    /// Begins a call and makes its operations as long as it need not wait for another caller; it tries to lock
+    /// a bucket at most `rounds` times. A reply ends the call; without one the session is in it, and `go_on`
+    /// goes on.
     #[inline(always)]
     pub fn set_out(&mut self, call: Call, rounds: u32) -> Option<Reply>
         requires fit { IsFit self.old }

@@ -1,8 +1,8 @@
 //! One caller of a table that others share. Its calls are those of `rht_run` on its table and its pass.
 //!
 //! A call that waits for nobody is made as a whole. Any call can be made in pieces instead: `begin` makes its
-//! first operation, and `go_on` so many further ones; or `set_out` makes operations in one go, as long as it need not
-//! wait. None of these waits, and none takes memory.
+//! first operation, and `go_on` a number of further ones; or `set_out` makes all those for which it need not wait. None
+//! of these waits, and none takes memory.
 
 ghost use Rattle.std.specs.Prelude.{◌≡◌, ◌<◌, true, false, IfOk, IfSome, IfNone, length, vec_len};
 ghost use Rattle.rht_words.specs.Settled.{IsSettled};
@@ -88,7 +88,7 @@ impl<M: Mix> Shared<M> {
         self.table.start(&mut self.pass, call)
     }
 
-    /// Sets out on any call, as `Table::set_out`: a reply ends it, and without one it is in progress.
+    /// Begins any call, as `Table::set_out`: a reply ends it, and without one it is in progress.
     #[inline(always)]
     pub fn set_out(&mut self, call: Call, rounds: u32) -> Option<Reply>
         requires fit { IsPassOf M.mix_of (table_of self.old) self.old.pass }

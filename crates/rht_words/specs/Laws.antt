@@ -146,8 +146,8 @@ pub record ChangesOneBit (word bit : ℕ) : Type 0 where
 abbrev pub MasksChangeOneBit : Type 0
 MasksChangeOneBit = (word bit : ℕ) → word < 2 ^ 64 → bit < 64 → ChangesOneBit word bit
 
--- a caller that is given this word of the node map looks for a free node from one on that there is: in the plain ways from the
--- first, and where callers may begin at any from that which it is given
+-- the word at which a search begins is one of the map: the first in the plain ways, and the given one where searches may begin at any
+-- word and the map has it
 pub record BeginsAtWord (env : Env) (start : ℕ) : Type 0 where
   pub within : start_in env start < map_words env.geometry.nodes
   pub plain : env.ways ≡ plain_ways → start_in env start ≡ 0

@@ -6,7 +6,7 @@ pub mod Sizes
 pub mod Limits
 -- which configs a table can be opened with, and the plain one
 pub mod Settled
--- what comes of a table's ways
+-- where searches for a free node begin
 pub mod Ways
 -- the seven operations on one word
 pub mod Operations

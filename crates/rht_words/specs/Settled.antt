@@ -41,6 +41,6 @@ plain_config = record {
   shrink = false;
 }
 
--- in which ways a table that scripts and replays use does otherwise than they say: in none
+-- the ways of tables that scripts and replays open: no search begins elsewhere than at the first word
 abbrev pub plain_ways : Ways
 plain_ways = record { spread = false }

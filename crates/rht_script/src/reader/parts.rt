@@ -52,7 +52,7 @@ pub fn table_line(line: &[u8]) -> Result<TableLine, u8>
 }
 
 /// The worker of a command line, counted from 1, and what it asks, or the line's first cause, of
-/// 2 to 4 and 7. A line without words, and a line of a schedule, have cause 2. A line is never
+/// 2 to 4. A line without words, and a line of a schedule, have cause 2. A line is never
 /// skipped.
 pub fn command_line(line: &[u8], table: &TableLine) -> Result<(u32, Call), u8>
     requires settled { IsSettled table.now.config }
