@@ -28,6 +28,8 @@ pub mod Invariants
 pub mod PagesThere
 -- the invariant holds in every run
 pub mod InvariantRuns
+-- runs of a table in the plain ways
+pub mod PlainStarts
 -- what each event keeps of callers and of the ghost
 pub mod KeptAtEvents
 -- a caller may hold its section open over its calls

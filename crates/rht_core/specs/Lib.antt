@@ -52,6 +52,8 @@ pub mod Shown
 pub mod Sections
 -- for whose section a call waits
 pub mod Awaited
+-- runs of a table in the plain ways
+pub mod PlainRuns
 -- what the count of ports counts, and a table that nobody uses
 pub mod Counts
 -- how many calls took a node

@@ -9,6 +9,7 @@ use Rattle.rht_words.specs.Operations.{old_of, applied}
 use Rattle.rht_words.specs.Places.{EnrolledCallers, place_of, words_in}
 use Rattle.rht_words.specs.Opening.{opening_words}
 use Rattle.rht_words.specs.Ports.{IsPort}
+use Rattle.rht_words.specs.Settled.{plain_ways}
 use Rattle.rht_model.specs.declared.history.Call.{Call}
 use Rattle.rht_model.specs.declared.history.Call.TheVariants.{Bind, Find, All, Release, Rebind, Walk}
 use Rattle.rht_model.specs.declared.history.Reply.{Reply}
@@ -179,9 +180,10 @@ module _ {M : Type 0} where
   opening_core env =
       record { env = env; words = opening_words env; enrolled = 0; locals = replicate env.geometry.callers (fresh env) }
 
-  -- it has just been opened with this config
+  -- it has just been opened with this config, in the plain ways
   pub record IsOpened (config : Config) (core : Core M) : Type 0 where
     pub config_same : core.env.config ≡ config
+    pub ways_plain : core.env.ways ≡ plain_ways
     pub core_same : core ≡ opening_core core.env
 
   abbrev pub opening : Env → World M

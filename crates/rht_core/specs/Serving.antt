@@ -3,6 +3,7 @@
 use Rattle.std.specs.Prelude.{◌≡◌, ◌≢◌, ℕ, ◌+◌, ◌<◌, ◌==◌, ◌&&◌, if◌then◌else◌, Bool, true, false, List, [], ◌∷◌, ◌++◌, length, slice_index_or}
 use Rattle.rht_words.specs.declared.config.Config.{Config}
 use Rattle.rht_words.specs.declared.env.Env.{Env}
+use Rattle.rht_words.specs.Settled.{plain_ways}
 use Rattle.rht_model.specs.declared.bindings.Closed.{Closed}
 use Rattle.rht_model.specs.declared.history.Call.{Call}
 use Rattle.rht_model.specs.declared.history.Call.TheVariants.{Work, Tidy}
@@ -85,13 +86,14 @@ pub record IsServing {M : Type 0} (world : World M) (auto : Bool) (caller : ℕ)
   pub idle : is_idle (local_of world.core caller) ≡ true
   pub serves : Serves auto calls endings (world.books caller).finished
 
--- A run of a table of this config in which each worker, counted from 1, is the caller of the number below: it is idle at the end,
+-- A run of a table of this config, in the plain ways, in which each worker, counted from 1, is the caller of the number below: it is idle at the end,
 -- and its finished calls serve its commands with these endings, where `auto` says whether it runs `work` by itself. What was closed
 -- is what the last words stand for.
 pub record IsServedRun (M : Type 0) (mix : ℕ → ℕ → ℕ → ℕ) (config : Config) (auto : Bool) (commands : List (ℕ × Call))
     (endings : List (List Ending)) (closed : Closed) : Type 0 where
   pub env : Env
   pub config_same : env.config ≡ config
+  pub ways_plain : env.ways ≡ plain_ways
   pub events : List Event
   pub admitted : IsAdmitted events
   pub workers : length endings ≡ config.callers

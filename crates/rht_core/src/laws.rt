@@ -19,6 +19,7 @@ ghost use Rattle.rht_core.specs.Reach.{Safe, NeverFree, Inside};
 ghost use Rattle.rht_core.specs.Refused.{Refused};
 ghost use Rattle.rht_core.specs.Tables.{Tables, NeverAgain};
 ghost use Rattle.rht_core.specs.RunHistories.{HasFittingHistory};
+ghost use Rattle.rht_core.specs.PlainRuns.{PlainRuns};
 ghost use Rattle.rht_core.specs.Removals.{Grace, Handed, HandsOut, AreRemoved};
 ghost use Rattle.rht_core.specs.Sections.{Sections, OwnSections};
 ghost use Rattle.rht_core.specs.Shown.{Shown, ShownBound, ShownWhole};
@@ -32,6 +33,14 @@ use rht_policy::Mix;
 /// can be followed event by event. It doesn't say that an event comes.
 pub fn extends<M: Mix>()
     ensures { Extends M M.mix_of }
+{}
+
+/// In every run of a table in the plain ways, which are those of scripts and replays, no start of an event makes a
+/// difference and nobody holds its section open: a caller that is enrolled and in no call begins with the machine that
+/// searches from the first word of the node map, nobody else begins, and each operation is the one that the machine
+/// plans. So such a run is one of the machines alone. It says nothing of tables in other ways.
+pub fn plain<M: Mix>()
+    ensures { PlainRuns M M.mix_of }
 {}
 
 /// In every run all words and callers are there, and all that a caller's state names is the table's: its slots, nodes

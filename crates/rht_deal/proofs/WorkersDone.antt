@@ -6,6 +6,7 @@ use Rattle.std.specs.List.{AllByRecursion, range_with_len}
 use Rattle.std.proofs.lemmas.List.{get_or-map, length-map}
 use Rattle.std.proofs.lemmas.List.FromFn.{get_or-map-range_with_len, length-map-range_with_len, length-range_with_len}
 use Rattle.std.proofs.lemmas.List.Sums.{sum_by-cons}
+use Rattle.rht_words.specs.Settled.{plain_ways}
 use Rattle.rht_model.specs.declared.history.Call.{Call}
 use Rattle.rht_model.specs.declared.history.Call.TheVariants.{Count}
 use Rattle.rht_core.specs.Serving.{calls_of}
@@ -115,13 +116,14 @@ module _ {M : Type 0} (mix : ℕ → ℕ → ℕ → ℕ) (t : Table M) (script 
 
   -- So all passes have served the commands, each as its worker's, with the endings that are kept.
   pub HaveServedAll-done : (workers : List (Worker M)) (dones : List Done) → t.env.config ≡ script.config
-      → AreWorking mix t script 1 workers → length workers ≡ script.config.callers
+      → t.env.ways ≡ plain_ways → AreWorking mix t script 1 workers → length workers ≡ script.config.callers
       → numbers_of dones ≡ numbers_to (length script.commands.items)
       → ((i : ℕ) → i < length workers → done_by (i + 1) dones ≡ get_or (kept_of workers) i [])
       → HaveServedAll mix script.config t script.auto (as_done dones script.commands.items) (passes_of workers)
       (all_endings script.config.callers dones)
-  HaveServedAll-done workers dones config all many numbers each = record {
+  HaveServedAll-done workers dones config ways all many numbers each = record {
     config_same = config;
+    ways_plain = ways;
     many = length-map workers (λ (w : Worker M). w.pass) ∙ many;
     workers = length-all_endings script.config.callers dones;
     each = λ i default below.
@@ -156,13 +158,13 @@ module _ {M : Type 0} (mix : ℕ → ℕ → ℕ → ℕ) (t : Table M) (script 
 
   -- so it is where the passes and what each has done were parted
   pub HaveServedAll-parted : (workers : List (Worker M)) (passes : List (Pass M)) (kept : List (List Done)) (dones : List Done) (count : ℕ)
-      → t.env.config ≡ script.config → AreWorking mix t script 1 workers → length workers ≡ script.config.callers
-      → passes ≡ passes_of workers → kept ≡ kept_of workers → count ≡ length script.commands.items → numbers_of dones ≡ numbers_to count
+      → t.env.config ≡ script.config → t.env.ways ≡ plain_ways → AreWorking mix t script 1 workers
+      → length workers ≡ script.config.callers → passes ≡ passes_of workers → kept ≡ kept_of workers → count ≡ length script.commands.items → numbers_of dones ≡ numbers_to count
       → ((i : ℕ) → i < length kept → done_by (i + 1) dones ≡ get_or kept i [])
       → HaveServedAll mix script.config t script.auto (as_done dones script.commands.items) passes (all_endings script.config.callers dones)
-  HaveServedAll-parted workers passes kept dones count config all many passes_are kept_are count_is numbers each =
+  HaveServedAll-parted workers passes kept dones count config ways all many passes_are kept_are count_is numbers each =
       let as_many : length kept ≡ length workers = ap length kept_are ∙ length-map workers (λ (w : Worker M). w.done.items) in
       subst (λ ps. HaveServedAll mix script.config t script.auto (as_done dones script.commands.items) ps
       (all_endings script.config.callers dones)) (sym passes_are)
-      (HaveServedAll-done workers dones config all many (numbers ∙ ap numbers_to count_is)
+      (HaveServedAll-done workers dones config ways all many (numbers ∙ ap numbers_to count_is)
       (λ i below. each i (omega (arith, below, as_many)) ∙ ap (λ l. get_or l i []) kept_are))

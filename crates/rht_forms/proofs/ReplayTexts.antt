@@ -27,6 +27,7 @@ Prints-replayed held ofaults o o' r script left left_after read replayed = (
       says = refl;
       env = replayed.env;
       config_same = replayed.config_same;
+      ways_plain = replayed.ways_plain;
       written = refl;
       in_run = replayed.in_run;
       one_text = replayed.one_text;

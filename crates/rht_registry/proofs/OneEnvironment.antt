@@ -1,4 +1,4 @@
--- A config has one environment: its numbers are the config's, and what else it has are facts, each of which holds in one way.
+-- A config and ways have one environment: its numbers are the config's, and what else it has are facts, each of which holds in one way.
 use Rattle.std.proofs.Common.{◌≡◌, ℕ, sym, ◌∙◌, ap}
 use Rattle.std.proofs.Props.{props}
 use mathlib.Core.HLevel.{is_prop→PathP}
@@ -28,9 +28,9 @@ Geometry-same g h nodes pages callers = λ i. record {
       h.within i;
 }
 
--- environments of the same config are the same
-pub Env-same : (env other : Env) → env.config ≡ other.config → env ≡ other
-Env-same env other same =
+-- environments of the same config and ways are the same
+pub Env-same : (env other : Env) → env.config ≡ other.config → env.ways ≡ other.ways → env ≡ other
+Env-same env other same ways =
     let nodes = env.agrees.nodes_same ∙ ap (λ (k : Config). k.nodes) same ∙ sym other.agrees.nodes_same in
     let pages = env.agrees.pages_same ∙ ap (λ (k : Config). k.pages) same ∙ sym other.agrees.pages_same in
     let callers = env.agrees.callers_same ∙ ap (λ (k : Config). k.callers) same ∙ sym other.agrees.callers_same in
@@ -38,6 +38,7 @@ Env-same env other same =
     (λ i. record {
       geometry = geometry i;
       config = same i;
+      ways = ways i;
       settled = is_prop→PathP (λ j. IsSettled (same j)) (λ j. one-settled (same j)) env.settled other.settled i;
       agrees =
           is_prop→PathP (λ j. IsGeometryOf (same j) (geometry j)) (λ j. one-agreement (same j) (geometry j)) env.agrees other.agrees

@@ -4,7 +4,7 @@ use Rattle.std.specs.List.{AllByRecursion, list_all, flat_map}
 use Rattle.std.proofs.lemmas.Bool.{and_parts, leb-true}
 use Rattle.rht_words.specs.declared.config.Config.{Config}
 use Rattle.rht_words.specs.declared.env.Env.{Env}
-use Rattle.rht_words.specs.Settled.{IsSettled}
+use Rattle.rht_words.specs.Settled.{IsSettled, plain_ways}
 use Rattle.rht_model.specs.declared.history.Call.{Call}
 use Rattle.rht_core.specs.Locals.{is_idle}
 use Rattle.rht_core.specs.Runs.{Core, local_of}
@@ -52,6 +52,7 @@ pub env_of : (config : Config) → IsSettled config → Env
 env_of config settled = record {
   geometry = record { nodes = config.nodes; pages = config.pages; callers = config.callers; within = settled.geometry };
   config = config;
+  ways = plain_ways;
   settled = settled;
   agrees = record { nodes_same = refl; pages_same = refl; callers_same = refl };
 }
@@ -60,11 +61,15 @@ pub env_of-config : (config : Config) (settled : IsSettled config) → (env_of c
 unfolding env_of
 env_of-config config settled = refl
 
+pub env_of-ways : (config : Config) (settled : IsSettled config) → (env_of config settled).ways ≡ plain_ways
+unfolding env_of
+env_of-ways config settled = refl
+
 -- and no other, so the text of a replay is one
-pub replay_text-one : (M : Type 0) (mix : ℕ → ℕ → ℕ → ℕ) (script : Script) (env : Env) → env.config ≡ script.config → (other : Env)
-    → other.config ≡ script.config → replay_text M mix other script ≡ replay_text M mix env script
-replay_text-one M mix script env is other too =
-    ap (λ (e : Env). replay_text M mix e script) (Env-same other env (too ∙ sym is))
+pub replay_text-one : (M : Type 0) (mix : ℕ → ℕ → ℕ → ℕ) (script : Script) (env : Env) → env.config ≡ script.config → env.ways ≡ plain_ways
+    → (other : Env) → other.config ≡ script.config → other.ways ≡ plain_ways → replay_text M mix other script ≡ replay_text M mix env script
+replay_text-one M mix script env is plain other too as_plain =
+    ap (λ (e : Env). replay_text M mix e script) (Env-same other env (too ∙ sym is) (as_plain ∙ sym plain))
 
 -- each line is a worker's
 sound-line : (config : Config) (line : Sched) → is_sound_line config line ≡ true → IsLineFor config.callers line

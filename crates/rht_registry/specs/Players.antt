@@ -2,6 +2,7 @@
 use Rattle.std.specs.Prelude.{◌≡◌, ℕ, ◌+◌, ◌≤◌, Option, Some, None, Result, Err, OnOk, OnErr, List, [], ◌∷◌, length, drop, replicate, slice_index}
 use Rattle.std.specs.Io.KnownBytes.{Appends}
 use Rattle.rht_words.specs.declared.env.Env.{Env}
+use Rattle.rht_words.specs.Settled.{plain_ways}
 use Rattle.rht_io.specs.Told.{Rose, AppendsPrefix, Puts}
 use Rattle.rht_model.specs.declared.history.Call.{Call}
 use Rattle.rht_core.specs.declared.event.Event.TheVariants.{Enroll}
@@ -61,12 +62,14 @@ pub record Writes {S : Type 0} (held : S → Option (List ℕ)) (faults : S → 
   pub write : r ≡ Err Write → Rose (faults old) (faults new)
   pub kept : faults old ≤ faults new
 
--- The text of the script's replay was written, on a table of its config, and the replay is a run. The text is the script's alone: every
--- environment of its config gives the same one.
+-- The text of the script's replay was written, on a table of its config in the plain ways, and the replay is a run. The text is the
+-- script's alone: every such environment gives the same one.
 pub record IsReplayed {S : Type 0} (M : Type 0) (mix : ℕ → ℕ → ℕ → ℕ) (script : Script) (held : S → Option (List ℕ)) (faults : S → ℕ)
     (old new : S) (r : Result (Unit {0}) ReplayError) : Type 0 where
   pub env : Env
   pub config_same : env.config ≡ script.config
+  pub ways_plain : env.ways ≡ plain_ways
   pub text : Writes held faults old new r (replay_text M mix env script)
   pub in_run : IsInRun M mix env script
-  pub one_text : (other : Env) → other.config ≡ script.config → replay_text M mix other script ≡ replay_text M mix env script
+  pub one_text : (other : Env) → other.config ≡ script.config → other.ways ≡ plain_ways
+      → replay_text M mix other script ≡ replay_text M mix env script

@@ -156,6 +156,7 @@ module _ {M : Type 0} (mix : ℕ → ℕ → ℕ → ℕ) (config : Config) (t :
     IsServedRun-closed = record {
       env = t.env;
       config_same = all.config_same;
+      ways_plain = all.ways_plain;
       events = end.end.events;
       admitted = end.end.admitted;
       workers = all.workers;

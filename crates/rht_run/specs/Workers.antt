@@ -1,6 +1,7 @@
 -- What callers leave that have served commands: the passes of a table, each with the endings of its own.
 use Rattle.std.specs.Prelude.{◌≡◌, ℕ, ◌+◌, ◌<◌, Bool, true, List, [], length, slice_index_or}
 use Rattle.rht_words.specs.declared.config.Config.{Config}
+use Rattle.rht_words.specs.Settled.{plain_ways}
 use Rattle.rht_model.specs.declared.history.Call.{Call}
 use Rattle.rht_model.specs.Endings.{Ending}
 use Rattle.rht_core.specs.Locals.{is_idle}
@@ -19,12 +20,13 @@ pub record HasServedCalls {M : Type 0} (mix : ℕ → ℕ → ℕ → ℕ) (t : 
   pub idle : is_idle pass.local ≡ true
   pub serves : Serves auto calls endings (book_of pass).finished
 
--- The table has this config, there are as many passes as callers, in order of their numbers, and each has served the commands of the
+-- The table has this config and the plain ways, there are as many passes as callers, in order of their numbers, and each has served the commands of the
 -- worker that is counted from 1, with the endings at its place.
 pub record HaveServedAll {M : Type 0} (mix : ℕ → ℕ → ℕ → ℕ) (config : Config) (t : Table M) (auto : Bool) (commands : List (ℕ × Call))
     (passes : List (Pass M)) (endings : List (List Ending))
     : Type 0 where
   pub config_same : t.env.config ≡ config
+  pub ways_plain : t.env.ways ≡ plain_ways
   pub many : length passes ≡ config.callers
   pub workers : length endings ≡ config.callers
   pub each : (i : ℕ) (default : Pass M) → i < config.callers

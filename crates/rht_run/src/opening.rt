@@ -2,7 +2,7 @@
 //! its own.
 
 ghost use Rattle.std.specs.Prelude.{◌≡◌, ℕ, ◌+◌, ◌-◌, ◌<◌, ◌≤◌, vec_len, [], IfOk};
-ghost use Rattle.rht_words.specs.Settled.{IsSettled};
+ghost use Rattle.rht_words.specs.Settled.{IsSettled, plain_ways};
 ghost use Rattle.rht_core.specs.Locals.{fresh};
 ghost use Rattle.rht_run.specs.Passes.{IsOpening, AreNew, IsNew};
 
@@ -19,7 +19,7 @@ use rht_words::{Config, Env, places};
 use std::alloc::{AllocError, Global};
 
 impl<M: Mix> Table<M> {
-    /// A table with as many passes as its config has callers. The pass at place i of the list has the
+    /// A table in the plain ways, with as many passes as its config has callers. The pass at place i of the list has the
     /// number i, is in no call and has made none, and has rooms for all nodes and a batch with room for
     /// them. A pass's rooms take 24 bytes a node: 8 in its batch, 4 for owners and 12 for the pairs of a
     /// walk. No call but `close` takes memory. The one refusal is want of memory, and then nothing
@@ -29,6 +29,7 @@ impl<M: Mix> Table<M> {
         ensures passes { IfOk result (λ r. AreNew M.mix_of r.0 0 r.1.items) }
         ensures count { IfOk result (λ r. vec_len r.1 ≡ config.callers) }
         ensures config { IfOk result (λ r. r.0.env.config ≡ config) }
+        ensures ways { IfOk result (λ r. r.0.env.ways ≡ plain_ways) }
     {
         let env = Env::new(config);
         let (table, mut seat) = Table::<M>::with_first_seat(alloc, env)?;

@@ -4,6 +4,7 @@ use Rattle.std.specs.Arc.{arc_value}
 use Rattle.rht_words.specs.declared.config.Config.{Config}
 use Rattle.rht_words.specs.declared.config.Hash.{Hash}
 use Rattle.rht_words.specs.declared.config.Hash.TheVariants as hashes
+use Rattle.rht_words.specs.Settled.{plain_ways}
 use Rattle.rht_policy.specs.declared.mix.Lookup3.{Lookup3}
 use Rattle.rht_policy.specs.declared.mix.Low.{Low}
 use Rattle.rht_policy.specs.Mix.{final_mix, low_mix}
@@ -149,6 +150,7 @@ module _ {M : Type 0} where
   pub record AreAllNew (mix : ℕ → ℕ → ℕ → ℕ) (config : Config) (all : List (Shared M)) : Type 0 where
     pub table : Table M
     pub config_same : table.env.config ≡ config
+    pub ways_plain : table.env.ways ≡ plain_ways
     pub new : AreNewFrom mix table 0 all
     pub count : length all ≡ config.callers
 

@@ -78,6 +78,7 @@ module _ {M L : Type 0} (mix : ℕ → ℕ → ℕ → ℕ) (config : Config) (t
       → HaveServedAll mix config t auto (calls_from own 1 told) passes ended.endings
   HaveServedAll-ended ended own default told count are = record {
     config_same = all.config_same;
+    ways_plain = all.ways_plain;
     many = all.many;
     workers = ended.workers;
     each = λ i pass below.

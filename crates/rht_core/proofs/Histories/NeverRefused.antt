@@ -451,6 +451,7 @@ one_worker_while_answered M mix config auto commands endings closed served small
     let alone : IsServedRun M mix config auto (only_first calls) endings closed = record {
       env = served.env;
       config_same = served.config_same;
+      ways_plain = served.ways_plain;
       events = served.events;
       admitted = served.admitted;
       workers = served.workers;

@@ -1,7 +1,7 @@
 //! How far a replay has come: the table, and where each worker's next command is looked for.
 
 ghost use Rattle.std.specs.Prelude.{◌≡◌, ◌+◌, ◌^◌, ◌<◌, ◌≤◌, ℕ, List, Some, drop, length, IfOk, IfSome, slice_get, slice_index, slice_set, vec_len};
-ghost use Rattle.rht_words.specs.Settled.{IsSettled};
+ghost use Rattle.rht_words.specs.Settled.{IsSettled, plain_ways};
 ghost use Rattle.rht_model.specs.declared.history.Call.{Call};
 ghost use Rattle.rht_core.specs.Serving.{calls_of};
 ghost use Rattle.rht_registry.specs.Replays.{playing_from, readied, event_of, is_through};
@@ -35,6 +35,7 @@ impl<M: Mix> Player<M> {
     pub fn new(alloc: Global, config: Config) -> Result<Player<M>, AllocError>
         requires { IsSettled config }
         ensures config { IfOk result (λ player. player.state.env.config ≡ config) }
+        ensures ways { IfOk result (λ player. player.state.env.ways ≡ plain_ways) }
         ensures places { IfOk result (λ player. length player.next.items ≡ player.state.env.geometry.callers) }
         ensures playing { IfOk result (λ player. (commands : List (ℕ × Call))
             → playing_of commands player ≡ playing_from M.mix_of player.state.env commands) }
@@ -154,6 +155,7 @@ fn place_of_next(commands: &[(u32, Call)], worker: u32, from: usize) -> usize
 fn enrolled<M: Mix>(alloc: Global, config: Config) -> Result<State<M>, AllocError>
     requires { IsSettled config }
     ensures config { IfOk result (λ state. state.env.config ≡ config) }
+    ensures ways { IfOk result (λ state. state.env.ways ≡ plain_ways) }
     ensures enrolled { IfOk result (AreEnrolled M.mix_of) }
 {
     let mut state = State::open(alloc, config)?;

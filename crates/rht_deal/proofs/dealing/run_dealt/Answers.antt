@@ -52,7 +52,7 @@ close-requires-clause-passes g c pass among =
     sym workers.ok.0 ∙ c.in_ok-workers.ensures.count ∙ c.in_ok-table.ensures.count in
     let as_kept = length-map kept.items (λ (own : VecDeque Done Global). own.items) in
     let all = HaveServedAll-parted mix table script workers.items passes.items (kept_items kept) done.items c.len.result
-    c.in_ok-table.ensures.config c.in_ok-workers.ensures.workers many c.in_ok-passes.ensures.passes c.in_ok-passes.ensures.kept
+    c.in_ok-table.ensures.config c.in_ok-table.ensures.ways c.in_ok-workers.ensures.workers many c.in_ok-passes.ensures.passes c.in_ok-passes.ensures.kept
     (c.len.ensures ∙ script.commands.ok.0) c.in_ok-done.ensures.numbers
     (λ i below. c.in_ok-done.ensures.own i (omega (arith, below, as_kept, kept.ok.0))) in
     HaveServedAll-passes mix script.config table script.auto (as_done done.items script.commands.items) passes.items
@@ -74,7 +74,7 @@ returns-in-Ok g c =
     let as_kept = length-map kept.items (λ (own : VecDeque Done Global). own.items) in
     let count : c.len.result ≡ length script.commands.items = c.len.ensures ∙ script.commands.ok.0 in
     let all = HaveServedAll-parted mix table script workers.items passes.items (kept_items kept) done.items c.len.result
-    c.in_ok-table.ensures.config c.in_ok-workers.ensures.workers many c.in_ok-passes.ensures.passes c.in_ok-passes.ensures.kept
+    c.in_ok-table.ensures.config c.in_ok-table.ensures.ways c.in_ok-workers.ensures.workers many c.in_ok-passes.ensures.passes c.in_ok-passes.ensures.kept
     count c.in_ok-done.ensures.numbers
     (λ i below. c.in_ok-done.ensures.own i (omega (arith, below, as_kept, kept.ok.0))) in
     let kept_many : vec_len kept ≡ script.config.callers =

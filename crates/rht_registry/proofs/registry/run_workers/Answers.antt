@@ -9,6 +9,7 @@ returns g c =
     let all = c.in_ok-left.ensures in
     record {
       config_same = all.config_same;
+      ways_plain = all.ways_plain;
       many = all.many;
       workers = all.workers;
       each = λ i default below.

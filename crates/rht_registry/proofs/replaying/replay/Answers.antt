@@ -5,7 +5,7 @@ use Rattle.rht_registry.specs.Replays.{Playing, schedule_played, end_text, repla
 use Rattle.rht_registry.specs.Players.{playing_of, Writes}
 use Rattle.rht_io.proofs.ToldLemmas.{Puts-longer}
 use Rattle.rht_registry.proofs.PlayedParts.{Writes-failed, Writes-after, Writes-nothing}
-use Rattle.rht_registry.proofs.ReplayEnds.{env_of, env_of-config, lines-for, replay_text-one, replay_text-is, replay-in_run}
+use Rattle.rht_registry.proofs.ReplayEnds.{env_of, env_of-config, env_of-ways, lines-for, replay_text-one, replay_text-is, replay-in_run}
 use Rattle.rht_registry.proofs.replaying.replay.Goals as goal
 
 pub returns-in_err-player : goal.returns-in_err-player
@@ -16,13 +16,15 @@ returns-in_err-player g c =
     record {
       env = env;
       config_same = env_of-config script.config c.requires.sound.settled;
+      ways_plain = env_of-ways script.config c.requires.sound.settled;
       text = Writes-nothing g.O.Sink.held g.O.Sink.faults c.args.out.now c.from_residual.result
           (replay_text g.row.M.Denot (mix_named script.config) env script) c.from_residual.ensures.0
           (λ is. let e = p.1 in let m = p.2 in cc);
       in_run =
           replay-in_run g.row.M.Denot (mix_named script.config) env script
           (env_of-config script.config c.requires.sound.settled) c.requires.sound;
-      one_text = replay_text-one g.row.M.Denot (mix_named script.config) script env (env_of-config script.config c.requires.sound.settled);
+      one_text = replay_text-one g.row.M.Denot (mix_named script.config) script env
+          (env_of-config script.config c.requires.sound.settled) (env_of-ways script.config c.requires.sound.settled);
     }
 
 pub play_schedule-requires-clause-can : goal.play_schedule-requires-clause-can
@@ -54,6 +56,7 @@ returns-in_err-play_schedule g c =
     record {
       env = env;
       config_same = c.in_ok-player.ensures.config;
+      ways_plain = c.in_ok-player.ensures.ways;
       text = subst (Writes g.O.Sink.held g.O.Sink.faults c.args.out.now c.play_schedule.new.out
           c.from_residual-in_err-play_schedule.result) is
           (Writes-failed g.O.Sink.held g.O.Sink.faults c.args.out.now c.play_schedule.new.out e
@@ -62,7 +65,8 @@ returns-in_err-play_schedule g c =
           c.in_err-play_schedule.ensures.put) c.from_residual-in_err-play_schedule.ensures.0);
       in_run =
           replay-in_run g.row.M.Denot (mix_named script.config) env script c.in_ok-player.ensures.config c.requires.sound;
-      one_text = replay_text-one g.row.M.Denot (mix_named script.config) script env c.in_ok-player.ensures.config;
+      one_text = replay_text-one g.row.M.Denot (mix_named script.config) script env c.in_ok-player.ensures.config
+          c.in_ok-player.ensures.ways;
     }
 
 pub returns : goal.returns
@@ -80,6 +84,7 @@ returns g c =
     record {
       env = env;
       config_same = c.in_ok-player.ensures.config;
+      ways_plain = c.in_ok-player.ensures.ways;
       text = subst (Writes g.O.Sink.held g.O.Sink.faults c.args.out.now c.write_end.new.out c.write_end.result) is
           (Writes-after g.O.Sink.held g.O.Sink.faults c.args.out.now c.play_schedule.new.out c.write_end.new.out c.write_end.result
           played.1 (end_text played.0.core) c.in_ok-play_schedule.ensures.put
@@ -87,5 +92,6 @@ returns g c =
           c.write_end.ensures));
       in_run =
           replay-in_run g.row.M.Denot (mix_named script.config) env script c.in_ok-player.ensures.config c.requires.sound;
-      one_text = replay_text-one g.row.M.Denot (mix_named script.config) script env c.in_ok-player.ensures.config;
+      one_text = replay_text-one g.row.M.Denot (mix_named script.config) script env c.in_ok-player.ensures.config
+          c.in_ok-player.ensures.ways;
     }

@@ -21,6 +21,7 @@ returns g c =
     let has = g.J.Job.has_worked c.args.job.now g.row.M.Denot g.M.Mix.mix_of table in
     record {
       config_same = c.in_ok-table.ensures.config;
+      ways_plain = c.in_ok-table.ensures.ways;
       many = length_passes;
       workers = length_own;
       each =

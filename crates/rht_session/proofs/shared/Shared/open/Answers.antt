@@ -34,6 +34,7 @@ loop-pass-preserved g c =
       );
       count = omega (arith, many, longer, counted, new_all, old_all, new_left, old_left);
       config_same = before.config_same;
+      ways_plain = before.ways_plain;
     }
 
 pub returns : goal.returns
@@ -48,6 +49,7 @@ returns g c =
     record {
       table = t;
       config_same = end.config_same;
+      ways_plain = end.ways_plain;
       new = subst (λ (n : ℕ). AreNewFrom mix t n c.loop-pass.all.items) none end.new;
       count = omega (arith, counted, all, left, none);
     }
