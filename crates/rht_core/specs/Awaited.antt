@@ -1,5 +1,5 @@
 -- Which calls load another caller's section word, and so may wait for its section: tidyings, and resizings where they ask whether a retired
--- table may be given back or keep the section words when they retire one. No other call does, so none waits for a reader.
+-- table may be given back or keep the section words when they retire one. No other call looks at one.
 use Rattle.std.specs.Prelude.{◌≡◌, ◌≢◌, ℕ, ◌%◌, ◌<◌, ◌⊎◌, Some, List, [], ◌∷◌, ◌++◌, length, map, take}
 use Rattle.rht_words.specs.declared.env.Env.{Env}
 use Rattle.rht_words.specs.declared.geometry.Geometry.{Geometry}

@@ -1,5 +1,5 @@
--- Removals are calls that took a binding out. A caller's tidyings hand them out, in order and each once, together with the nodes that came
--- back; the caller's replies alone say which. A section that is open after that was opened after each of them had ended.
+-- Removals are calls that took a binding out. A caller's tidyings hand them out in order, each at most once, and as many as nodes come back;
+-- the caller's replies alone say which. A section that is open after that was opened after each of them had ended.
 use Rattle.std.specs.Prelude.{◌≡◌, ℕ, ◌<◌, ◌≤◌, true, List, [], ◌∷◌, ◌++◌, length, map, take, Some, if◌then◌else◌}
 use Rattle.std.specs.List.{Contains, flat_map, slice_get}
 use Rattle.rht_words.specs.declared.env.Env.{Env}

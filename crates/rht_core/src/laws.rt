@@ -308,7 +308,8 @@ pub fn tidied<M: Mix>()
 /// `Clear` handed out as many as it says.
 ///
 /// The replies of the caller's calls alone say which these are, and the bindings handed out are those of the removals
-/// handed out, in order. That no reader can still come to them is `grace`.
+/// handed out, in order. A removal hands out a binding: its owner may be bound still, at another port, again, or in a
+/// list twice. Whose sections are open then is for `grace`.
 pub fn handed<M: Mix>()
     ensures as_many { Handed M M.mix_of }
     ensures out { HandsOut M M.mix_of }
@@ -320,8 +321,9 @@ pub fn handed<M: Mix>()
 /// word was even, and since then it is the same. So whatever such a caller has found in this section it found after
 /// these removals.
 ///
-/// The law speaks of section words; what a caller could reach is for `safe`. It says nothing of sections opened later,
-/// of bindings made again meanwhile, nor that a tidying is ever answered `Clear`.
+/// The law speaks of section words; what a caller could reach is for `safe`. A call's answer comes when its section is
+/// closed, so nothing is said of who uses one. Nor does the law speak of sections opened later, of bindings made again
+/// meanwhile, or say that a tidying is ever answered `Clear`.
 pub fn grace<M: Mix>()
     ensures { Grace M M.mix_of }
 {}
@@ -372,7 +374,7 @@ pub fn sections<M: Mix>()
 {}
 
 /// In every run no call but a tidying and a resizing operates on the section word of another caller, and these load it.
-/// So no other call waits for a reader, even one that never ends.
+/// So no other call waits for a reader by looking at its section.
 ///
 /// A resizing does so in two places. Either its first operation took the work lock, and it has found a table retired
 /// and since then, of each caller before this one and in order, that it has left its section; it has just loaded the
