@@ -16,6 +16,8 @@ pub mod CallSteps
 pub mod CallCauses
 -- what a look-up has to show, and that it ends
 pub mod LookupCalls
+-- a batch has no more nodes than its table
+pub mod BatchCounts
 -- what a tidying makes of its pass's batch
 pub mod PassTidyings
 pub mod TidyRides

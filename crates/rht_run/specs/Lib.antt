@@ -12,6 +12,8 @@ pub mod ClosingSpaces
 pub mod Caused
 -- what a tidying makes of its pass's batch
 pub mod Tidying
+-- how many nodes a pass has that a tidying is to give back
+pub mod Untidied
 -- what the calls of a command leave
 pub mod Served
 -- what callers leave that have served commands

@@ -1,15 +1,17 @@
 //! Passes, by which callers step through a table.
 
-ghost use Rattle.std.specs.Prelude.{◌≡◌, true, None};
+ghost use Rattle.std.specs.Prelude.{◌≡◌, ◌++◌, length, true, None};
 ghost use Rattle.std.specs.List.{last_or};
 ghost use Rattle.rht_core.specs.Locals.{is_idle};
 ghost use Rattle.rht_core.specs.Replies.{owners_with, pairs_with};
 ghost use Rattle.rht_run.specs.declared.table.Table.{Table as TableOf};
 ghost use Rattle.rht_run.specs.Passes.{IsPassOf, book_of};
+ghost use Rattle.rht_run.specs.Untidied.{untidied};
 
 use crate::seats::SeatView;
 use atomic_table::Seat;
 use rht_core::Local;
+use rht_grace::Batch;
 use rht_policy::Mix;
 use rht_words::Port;
 
@@ -48,4 +50,23 @@ impl<M: Mix> Pass<M> {
     {
         self.local.pairs()
     }
+
+    /// How many nodes the pass's calls took out that aren't given back: those that wait, and those that don't yet.
+    /// It is 0 while the pass tidies, since the tidying has them then.
+    pub fn untidied(&self) -> u32
+        ensures { result ≡ untidied self.now }
+    {
+        match &self.local.batch {
+            Some(batch) => node_count(batch),
+            None => 0,
+        }
+    }
+}
+
+/// How many nodes the batch has, which are no more than the table's.
+fn node_count(batch: &Batch) -> u32
+    ensures { result ≡ length (batch.now.fresh ++ batch.now.waiting) }
+{
+    let _geometry = batch.geometry();
+    (batch.fresh().len() + batch.waiting().len()) as u32
 }
