@@ -2,10 +2,11 @@
 #
 #   form=draw    prints the script of `seed` and `number`. `tidies` says whether the program knows `tidy`, and `spread` how long
 #                workers dawdle
-#   form=judge   reads a script and its text, and searches for an order of the replies that is legal
+#   form=judge   reads a script and its text, and searches for an order of the replies that is legal. Where `claims` names a file it
+#                writes the order that it finds there, as a claimed history for `rht check`
 #
-# A judgement is one line: `legal`, and then the states that were searched, whether the workers were mixed, the answers `nonode`, and
-# the tidyings that had to wait. Otherwise it is `wrong:` and why, and the status is 1.
+# A judgement is one line: `legal`, and then the states that were searched, whether the workers were mixed, the answers `nonode`, the
+# tidyings that had to wait, and the claims that were written. Otherwise it is `wrong:` and why, and the status is 1.
 
 BEGIN {
   if (form == "draw") {
@@ -80,6 +81,7 @@ FNR == 1 { files++ }
 
 # the script: of each worker its calls in order
 files == 1 && $1 == "table" {
+  table_line = $0
   single = $2 == "single"
   workers = 1
   for (i = 3; i < NF; i += 2) {
@@ -138,7 +140,8 @@ END {
     print "wrong: " first_fault
     exit 1
   }
-  print "legal", searched + 0, mixed + 0, unserved + 0, waited + 0
+  if (claims != "") write_claims()
+  print "legal", searched + 0, mixed + 0, unserved + 0, waited + 0, claimed + 0
 }
 
 # ---- The search ---------------------------------------------------------------------------------
@@ -166,11 +169,16 @@ function judge(    worker, i, bound, at, port, last) {
   else mixed = !one_after_another(at, bound, last)
 }
 
+# All calls of the worker stay in `asked`, with their replies in `answered`. `place_of` has the places there of the calls that are kept.
 function drop_dawdling(worker,    i, left) {
+  many_asked[worker] = many_calls[worker] + 0
   for (i = 1; i <= many_calls[worker]; i++) {
+    asked[worker, i] = calls[worker, i]
+    answered[worker, i] = replies[worker, i]
     if (calls[worker, i] != "find 0") {
       calls[worker, ++left] = calls[worker, i]
       replies[worker, left] = replies[worker, i]
+      place_of[worker, left] = i
     } else if (replies[worker, i] != "missing") fault("port 0 was " replies[worker, i])
   }
   many_calls[worker] = many_replies[worker] = left + 0
@@ -212,22 +220,34 @@ function look_at_tidyings(worker,    i, parts, out) {
 #
 # A reply that is right here and changes nothing is taken at once: an order that takes it later can take it
 # here as well. So there is a choice only among those that change what is bound. A state is searched once.
-function leads(at, bound, last,    place, worker, left, here) {
+#
+# Where they have one, `order` has the workers of the `taken` replies, from the first on.
+function leads(at, bound, last,    place, worker, left, here, before, silent) {
   split(at, place, " ")
   left = 0
   here = ""
+  before = taken
   for (worker = 1; worker <= workers; worker++) {
-    while (place[worker] < many_calls[worker] && is_right(worker, place[worker] + 1, bound) && !changes) place[worker]++
+    while (place[worker] < many_calls[worker] && is_right(worker, place[worker] + 1, bound) && !changes) {
+      place[worker]++
+      order[++taken] = worker
+    }
     left += many_calls[worker] - place[worker]
     here = here (worker > 1 ? " " : "") place[worker]
   }
-  if (left == 0) return bound == last
-  if ((here bound) in seen) return 0
-  seen[here bound]
-  searched++
-  for (worker = 1; worker <= workers; worker++)
-    if (place[worker] < many_calls[worker] && is_right(worker, place[worker] + 1, bound) && leads(with_one_more(here, worker), after, last))
-      return 1
+  if (left == 0 && bound == last) return 1
+  if (left > 0 && !((here bound) in seen)) {
+    seen[here bound]
+    searched++
+    silent = taken
+    for (worker = 1; worker <= workers; worker++) {
+      if (place[worker] == many_calls[worker] || !is_right(worker, place[worker] + 1, bound)) continue
+      taken = silent
+      order[++taken] = worker
+      if (leads(with_one_more(here, worker), after, last)) return 1
+    }
+  }
+  taken = before
   return 0
 }
 
@@ -237,6 +257,32 @@ function with_one_more(here, worker,    place, i, text) {
   for (i = 1; i <= workers; i++) text = text (i > 1 ? " " : "") place[i]
   return text
 }
+
+# ---- The order as claims -------------------------------------------------------------------------
+
+# Writes the order that was found as a claimed history. It has each reply of a call about bindings, the look-ups of port 0 among them:
+# these come right before their worker's next reply, since nobody binds that port. `tidy` and `count` have no place in such a history.
+function write_claims(    worker, i) {
+  print table_line >claims
+  for (worker = 1; worker <= workers; worker++)
+    for (i = 1; i <= many_asked[worker]; i++) if (is_about_bindings(asked[worker, i])) print worker, asked[worker, i] >claims
+  print "history" >claims
+  for (i = 1; i <= taken; i++) write_up_to(order[i], place_of[order[i], ++ordered[order[i]]])
+  for (worker = 1; worker <= workers; worker++) write_up_to(worker, many_asked[worker])
+  close(claims)
+}
+
+# the replies of the worker that aren't written yet, up to this one
+function write_up_to(worker, last) {
+  while (written[worker] < last) {
+    written[worker]++
+    if (!is_about_bindings(asked[worker, written[worker]])) continue
+    print worker ": " answered[worker, written[worker]] >claims
+    claimed++
+  }
+}
+
+function is_about_bindings(call) { return call ~ /^(bind|find|all|release|rebind) / }
 
 # ---- One call on bindings -----------------------------------------------------------------------
 
