@@ -12,6 +12,7 @@ mod refusals;
 mod resizing;
 mod returning;
 mod tidying;
+mod walking;
 
 ghost use Rattle.std.specs.Prelude.{◌≡◌, ◌<◌, length, IfSome};
 
@@ -19,7 +20,7 @@ use asked::{Asked, Told};
 use rht_core::{Event, State, Stepped, owners_of};
 use rht_model::Reply;
 use rht_policy::Mix;
-use rht_words::{Config, Geometry, Hash, Op, port_of};
+use rht_words::{Config, Geometry, Hash, Op, Port, port_of, word_of};
 use std::alloc::{AllocError, Global};
 use std::fmt::Debug;
 use std::process::Abort;
@@ -56,8 +57,9 @@ enum Row<'a> {
         lines: &'a [(Op, u64)],
         end: Option<(Asked, Reply)>,
     },
-    /// The first caller is given a call, which runs to this reply.
+    /// A caller is given a call, which runs to this reply.
     Replies {
+        caller: u32,
         asked: Asked,
         reply: Reply,
     },
@@ -66,6 +68,10 @@ enum Row<'a> {
         caller: u32,
         asked: Asked,
         reply: Reply,
+    },
+    /// The last call of the first caller has shown these pairs, in this order.
+    Shows {
+        pairs: &'a [(u64, u32)],
     },
 }
 
@@ -94,7 +100,15 @@ fn ends<'a>(caller: u32, lines: &'a [(Op, u64)], asked: Asked, reply: Reply) -> 
 }
 
 fn replies(asked: Asked, reply: Reply) -> Row<'static> {
-    Row::Replies { asked, reply }
+    replies_to(0, asked, reply)
+}
+
+fn replies_to(caller: u32, asked: Asked, reply: Reply) -> Row<'static> {
+    Row::Replies {
+        caller,
+        asked,
+        reply,
+    }
 }
 
 fn finishes(caller: u32, asked: Asked, reply: Reply) -> Row<'static> {
@@ -103,6 +117,10 @@ fn finishes(caller: u32, asked: Asked, reply: Reply) -> Row<'static> {
         asked,
         reply,
     }
+}
+
+fn shows<'a>(pairs: &'a [(u64, u32)]) -> Row<'a> {
+    Row::Shows { pairs }
 }
 
 fn bind(port: u64, owner: u32) -> Asked {
@@ -319,6 +337,16 @@ fn assert_reply<M: Mix>(
     Err("a call without a reply".into())
 }
 
+/// These are the pairs of these ports, in this order.
+fn assert_pairs(rt: &impl Abort, found: &[(Port, u32)], want: &[(u64, u32)]) {
+    assert_same(rt, found.len(), want.len());
+    for i in 0..want.len() {
+        assert!(rt; i < found.len());
+        let (port, owner) = found[i];
+        assert_same(rt, (word_of(port), owner), want[i]);
+    }
+}
+
 /// A table is opened with this config, and then the rows are as they say.
 fn assert_run<M: Mix>(
     rt: &impl Abort,
@@ -347,16 +375,21 @@ fn assert_run<M: Mix>(
             Row::Steps { caller, lines, end } => {
                 assert_steps(rt, alloc, &mut run, caller, lines, end)?;
             }
-            Row::Replies { asked, reply } => {
-                let told = Told::Begin { caller: 0, asked };
+            Row::Replies {
+                caller,
+                asked,
+                reply,
+            } => {
+                let told = Told::Begin { caller, asked };
                 assert_told(rt, &mut run.state, told, NOTHING);
-                assert_reply(rt, alloc, &mut run, 0, asked, reply)?;
+                assert_reply(rt, alloc, &mut run, caller, asked, reply)?;
             }
             Row::Finishes {
                 caller,
                 asked,
                 reply,
             } => assert_reply(rt, alloc, &mut run, caller, asked, reply)?,
+            Row::Shows { pairs } => assert_pairs(rt, run.state.local(0).pairs(), pairs),
         }
     }
     Ok(())

@@ -122,7 +122,7 @@ fn two_binds_of_a_port_across_an_attach(rt: HostRuntime) -> Result<(), Fail> {
 
 /// The states of all slots, by which a worker sees that none has a retired table: there is one table, in
 /// slot 0.
-fn one_table() -> [(Op, u64); 8] {
+pub fn one_table() -> [(Op, u64); 8] {
     [
         (Op::load(28), 1),
         (Op::load(60), 0),
@@ -135,26 +135,21 @@ fn one_table() -> [(Op, u64); 8] {
     ]
 }
 
-/// With 16 nodes the pages begin at 346. The worker moves the table of 4 buckets, 346 to 349, to one
-/// of 8, 410 to 417. Once it has moved an entry a bind attaches one of 16, from 474 on, and the next
-/// entry goes there.
-#[test]
-fn a_mover_is_overtaken_by_an_attach(rt: HostRuntime) -> Result<(), Fail> {
-    let config = Config {
-        nodes: 16,
-        min: 4,
-        hint: 3,
-        ..for_two()
-    };
-    let grows = Reply::Bound { kick: true };
-    let begun = [
-        (Op::add(9, 1), 0),
+/// The worker, caller 1, opens its section, the word of which was this, and finds four ports in the only table,
+/// which has 4 buckets.
+pub fn counted(section: u64) -> [(Op, u64); 5] {
+    [
+        (Op::add(9, 1), section),
         (Op::load(0), 0),
         (Op::load(26), 0),
         (Op::load(24), 2),
         (Op::load(2), 4),
-    ];
-    let made = [
+    ]
+}
+
+/// So it makes a table of 8 buckets in slot 1, with page 1, and attaches it.
+pub fn made() -> [(Op, u64); 11] {
+    [
         (Op::exchange(28, 0, 1), 1),
         (Op::exchange(60, 0, 1), 0),
         (Op::load(281), 14),
@@ -166,8 +161,12 @@ fn a_mover_is_overtaken_by_an_attach(rt: HostRuntime) -> Result<(), Fail> {
         (Op::store(58, 0), 0),
         (Op::store(59, 1), 0),
         (Op::exchange(26, 0, 2), 0),
-    ];
-    let first_moved = [
+    ]
+}
+
+/// In a table of 16 nodes it moves port 0, in node 0, from its bucket at 346 into the one at 410.
+pub fn first_moved() -> [(Op, u64); 16] {
+    [
         (Op::load(26), 2),
         (Op::load(24), 2),
         (Op::load(346), 2),
@@ -184,7 +183,21 @@ fn a_mover_is_overtaken_by_an_attach(rt: HostRuntime) -> Result<(), Fail> {
         (Op::store(282, 821), 693),
         (Op::store(410, 2), 1),
         (Op::store(346, 1), 3),
-    ];
+    ]
+}
+
+/// With 16 nodes the pages begin at 346. The worker moves the table of 4 buckets, 346 to 349, to one
+/// of 8, 410 to 417. Once it has moved an entry a bind attaches one of 16, from 474 on, and the next
+/// entry goes there.
+#[test]
+fn a_mover_is_overtaken_by_an_attach(rt: HostRuntime) -> Result<(), Fail> {
+    let config = Config {
+        nodes: 16,
+        min: 4,
+        hint: 3,
+        ..for_two()
+    };
+    let grows = Reply::Bound { kick: true };
     let emptied = [
         (Op::load(26), 2),
         (Op::load(58), 3),
@@ -226,9 +239,9 @@ fn a_mover_is_overtaken_by_an_attach(rt: HostRuntime) -> Result<(), Fail> {
             begins(1, Asked::Work),
             steps(1, &[(Op::exchange(1, 0, 1), 0)]),
             steps(1, &one_table()),
-            steps(1, &begun),
-            steps(1, &made),
-            steps(1, &first_moved),
+            steps(1, &counted(0)),
+            steps(1, &made()),
+            steps(1, &first_moved()),
             // These go into the table of 8 buckets, of which more than 6 are too many.
             replies(bind(7, 5), BOUND),
             replies(bind(69, 6), BOUND),
