@@ -9,9 +9,9 @@ use crate::asked::{Asked, Row, ask, assert_rows, lists, replies, shows};
 use crate::asserts::{SMALL, assert_bound, assert_same};
 use crate::library::pair;
 use rht_model::{Closed, Cursor, Reply};
-use rht_policy::{Low, Mix};
+use rht_policy::{Lookup3, Low, Mix};
 use rht_run::{Pass, Table};
-use rht_words::{Config, word_of};
+use rht_words::{Config, Kind, word_of};
 use std::alloc::{AllocError, Global};
 use std::process::Abort;
 use std::sync::Wait;
@@ -146,6 +146,32 @@ fn a_table_that_has_grown_is_closed(rt: HostRuntime) -> Result<(), Fail> {
     let closed = closed_after(&rt, rt.alloc(), FOUR, &rows)?;
     let bound: [(u64, &[u32]); 4] = [(2, &[2]), (5, &[4]), (7, &[1]), (11, &[3])];
     assert_bound(&rt, &closed, 8, &bound);
+    Ok(())
+}
+
+/// Of the three owners of port 80 one is left. Where the first closing is refused for want of memory, the second one,
+/// of the table and the pass that came back, tells the same.
+#[test]
+fn a_table_of_lists_is_closed(rt: HostRuntime) -> Result<(), Fail> {
+    let config = Config {
+        kind: Kind::Listed,
+        ..Config::plain()
+    };
+    let rows = [
+        replies(bind(80, 1), BOUND),
+        replies(bind(80, 2), BOUND),
+        replies(bind(80, 3), BOUND),
+        lists(80, 3, &[3, 2, 1]),
+        replies(release(80, 3), RELEASED),
+        replies(find(80), Reply::Found { owner: 2 }),
+        replies(release(80, 1), RELEASED),
+        lists(80, 1, &[2]),
+        lists(81, 0, &[]),
+    ];
+    let (table, mut pass) = opened::<Lookup3>(&rt, rt.alloc(), config)?;
+    assert_rows(&rt, &table, &mut pass, &rows);
+    let closed = closed(rt.alloc(), table, pass)?;
+    assert_bound(&rt, &closed, 64, &[(80, &[2])]);
     Ok(())
 }
 
