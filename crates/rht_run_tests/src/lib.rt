@@ -14,3 +14,5 @@ mod library;
 mod rebinding;
 #[cfg(test)]
 mod run;
+#[cfg(test)]
+mod threads;
