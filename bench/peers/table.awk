@@ -22,31 +22,41 @@ function written(number,    text, at) {
   return text
 }
 
+# why a table has no figure in a row, or nothing where it has one of each round
+function lack_of(table, row,    i) {
+  for (i = 1; i <= rounds[row]; i++) {
+    if (!((table, row, i) in nanos)) return "failed"
+    if (nanos[table, row, i] == "absent") return "not there"
+  }
+}
+
 # the nanoseconds of a table in a row, null taken off: the median of the rounds
 function nanos_of(table, row,    i) {
-  for (i = 1; i <= rounds[row]; i++) {
-    if (!((table, row, i) in nanos) || nanos[table, row, i] == "absent") return ""
-    net[row, i] = nanos[table, row, i] - nanos["null", row, i]
-  }
+  if (lack_of(table, row)) return lack_of(table, row)
+  for (i = 1; i <= rounds[row]; i++) net[row, i] = nanos[table, row, i] - nanos["null", row, i]
   sort_of(net, row, rounds[row])
-  return median(rounds[row])
+  return median(rounds[row]) < 100 ? sprintf("%.1f", median(rounds[row])) : written(median(rounds[row]))
 }
 
 # the ratio of the first table by another one in a row, with the least and the greatest of the rounds
-function ratio_of(table, row,    i, over, under) {
+function ratio_of(table, row,    i, under) {
+  if (lack_of(first, row) || lack_of(table, row)) return ""
   for (i = 1; i <= rounds[row]; i++) {
-    over = nanos[first, row, i]
-    under = nanos[table, row, i]
-    if (over == "" || under == "" || over == "absent" || under == "absent") return ""
-    under -= nanos["null", row, i]
+    under = nanos[table, row, i] - nanos["null", row, i]
     if (under <= 0) return ""
-    ratio[row, i] = (over - nanos["null", row, i]) / under
+    ratio[row, i] = (nanos[first, row, i] - nanos["null", row, i]) / under
   }
   sort_of(ratio, row, rounds[row])
   return sprintf("%.2f (%.2f to %.2f)", median(rounds[row]), sorted[1], sorted[rounds[row]])
 }
 
-function figure(number) { return number == "" ? "not there" : number < 100 ? sprintf("%.1f", number) : written(number) }
+# what the thread beside did in a second: the median of the rounds
+function rate_of(table, row,    i) {
+  if (lack_of(table, row)) return lack_of(table, row)
+  for (i = 1; i <= rounds[row]; i++) rates[row, i] = beside[table, row, i] + 0
+  sort_of(rates, row, rounds[row])
+  return written(median(rounds[row]))
+}
 
 function line(cells, n,    i, text) {
   text = "|"
@@ -90,10 +100,10 @@ END {
   rule(n)
   for (r = 1; r <= rows; r++) {
     begin_row(order[r])
-    cells[4] = figure(nanos_of(first, order[r]))
+    cells[4] = nanos_of(first, order[r])
     n = 4
     for (t = 3; t <= count; t++) {
-      cells[++n] = figure(nanos_of(table[t], order[r]))
+      cells[++n] = nanos_of(table[t], order[r])
       cells[++n] = ratio_of(table[t], order[r])
     }
     line(cells, n)
@@ -109,15 +119,7 @@ END {
   for (r = 1; r <= rows; r++) {
     if (order[r] !~ /^(inserting|resizing) /) continue
     begin_row(order[r])
-    for (t = 2; t <= count; t++) {
-      absent = 0
-      for (i = 1; i <= rounds[order[r]]; i++) {
-        if (beside[table[t], order[r], i] !~ /^[0-9]/) absent = 1
-        rates[order[r], i] = beside[table[t], order[r], i] + 0
-      }
-      sort_of(rates, order[r], rounds[order[r]])
-      cells[t + 2] = absent ? "not there" : written(median(rounds[order[r]]))
-    }
+    for (t = 2; t <= count; t++) cells[t + 2] = rate_of(table[t], order[r])
     line(cells, count + 2)
   }
 
