@@ -47,6 +47,12 @@ none_have (handle ∷ handles) all have none some =
     let no : true ≡ false = none ∙ eqb-suc-zero (length handles) in
     absurd cc
 
+-- and where there is a handle there is one
+pub some_have : (handles : List Handle) (all : List Session) → HaveAll handles all → (length handles == 0) ≡ false → 0 < length all
+some_have [] all have some = absurd cc
+some_have (handle ∷ handles) [] have some = absurd cc
+some_have (handle ∷ handles) (session ∷ all) have some = omega arith
+
 -- handles that have sessions are open; by induction over them
 pub have_open : (handles : List Handle) (all : List Session) → HaveAll handles all
     → list_all (λ (h : Handle). is_some (sessions_of h)) handles ≡ true

@@ -52,16 +52,18 @@ pub record IsClosedOver {M : Type 0} (mix : ℕ → ℕ → ℕ → ℕ) (kind :
 abbrev pub AreClosedWith : List Session → Closed → Type 0
 AreClosedWith all closed = IsClosedOver final_mix sessions.Mix all closed ⊎ IsClosedOver low_mix sessions.Low all closed
 
--- these handles had sessions in no call; and where a table was closed with that, it is theirs
+-- these handles, one at least, had sessions in no call; and where a table was closed with that, it is theirs
 abbrev pub HaveClosed : List Handle → Option Closed → Type 0
 HaveClosed handles closed =
-    (all : List Session) × HaveAll handles all × (list_all is_free all ≡ true) × IfSome closed (AreClosedWith all)
+    (all : List Session) × (0 < length all) × HaveAll handles all × (list_all is_free all ≡ true) × IfSome closed (AreClosedWith all)
 
--- why nothing was closed; memory may be refused before it is looked whether one of them is in a call
+-- Why nothing was closed. Where there is no handle, or one of them is blank, that is the reason; memory may be refused before it is
+-- looked whether one of them is in a call.
 abbrev pub IsWhyNotClosed : List Handle → NotClosed → Type 0
 IsWhyNotClosed handles reasons.NotOpen = (all : List Session) → HaveAll handles all → 0 < length all → ⊥
-IsWhyNotClosed handles reasons.InCall = (all : List Session) × HaveAll handles all × (list_all is_free all ≡ false)
-IsWhyNotClosed handles reasons.Memory = (all : List Session) × HaveAll handles all
+IsWhyNotClosed handles reasons.InCall =
+    (all : List Session) × (0 < length all) × HaveAll handles all × (list_all is_free all ≡ false)
+IsWhyNotClosed handles reasons.Memory = (all : List Session) × (0 < length all) × HaveAll handles all
 
 -- why sessions were kept
 abbrev pub IsWhyKept : List Session → NotClosed → Type 0

@@ -220,7 +220,8 @@ fn low_closed(
     ended(table?, passes, space)
 }
 
-/// Closes a table with these passes, unless another session has it too.
+/// Closes a table with these passes, unless another session has it too. Of all callers that give a table up, in
+/// whatever threads, the last one gets it: so says the kit of `into_inner`, and no clause does.
 fn ended<M: Mix>(
     table: Arc<Table<M>, Global>,
     passes: Vec<Pass<M>>,
@@ -231,8 +232,8 @@ fn ended<M: Mix>(
     requires space { IsSpaceFor (arc_value table).env.geometry space }
     ensures { IfSome result (IsClosedWith M.mix_of (arc_value table).env passes.items) }
 {
-    match Arc::try_unwrap(table) {
-        Ok(table) => Some(table.close_in(passes, space)),
-        Err(_) => None,
+    match Arc::into_inner(table) {
+        Some(table) => Some(table.close_in(passes, space)),
+        None => None,
     }
 }

@@ -220,13 +220,24 @@ impl Handle {
         ensures refused { IfErr result (λ refused. IsNotFree refused self.old self.new) }
     {
         self.need_free()?;
-        drop(self.take(alloc));
+        self.let_go(alloc);
         Ok(())
+    }
+
+    /// Lets the session go, where there is one, and leaves a blank handle.
+    fn let_go(&mut self, alloc: Global)
+        ensures { IsBlank self.new }
+    {
+        if let Some(session) = self.take(alloc) {
+            Box::into_inner(session).give_up();
+        }
     }
 }
 
 impl Drop for Handle {
     fn drop(self) {
-        drop(self.into_box());
+        if let Some(session) = self.into_box() {
+            Box::into_inner(session).give_up();
+        }
     }
 }

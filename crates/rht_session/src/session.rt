@@ -153,6 +153,14 @@ impl Session {
         }
     }
 
+    /// Gives the table up. The last session of a table that does frees it (tested).
+    pub(crate) fn give_up(self) {
+        match self {
+            Session::Mix(shared) => shared.give_up(),
+            Session::Low(shared) => shared.give_up(),
+        }
+    }
+
     /// The owners that came with the last call, the first owner first, where that was answered `Listed`;
     /// otherwise, and in a call, none.
     pub fn owners(&self) -> &[u32]

@@ -113,6 +113,13 @@ impl<M: Mix> Shared<M> {
         gone_on(&self.table, &mut self.pass, most)
     }
 
+    /// Gives the table up. The last one that does frees it (tested).
+    pub(crate) fn give_up(self) {
+        let Shared { table, pass } = self;
+        drop(pass);
+        drop(Arc::into_inner(table));
+    }
+
     /// The owners that came with the last call, as `Pass::owners`.
     pub fn owners(&self) -> &[u32]
         ensures { result.now ≡ self.now.pass.local.owners.items }

@@ -1,6 +1,6 @@
 use Rattle.std.proofs.Common.{◌≡◌, [], ◌∷◌, true, false, map, sym, ap, ◌∙◌}
 use Rattle.rht_session.specs.declared.session.Session.{Session}
-use Rattle.rht_session.proofs.TakenHandles.{none_have, have_open, have_fit, open_have, all_blank_fit, all_same_fit}
+use Rattle.rht_session.proofs.TakenHandles.{none_have, some_have, have_open, have_fit, open_have, all_blank_fit, all_same_fit}
 use Rattle.rht_session.proofs.handle.Handle.close_all.Goals as goal
 use Rattle.rht_session.proofs.handle.Handle.close_all.Goals.{then-is_empty-via-then-is_empty, then-is_empty-via-else-is_empty+then-not-are_open}
 
@@ -14,11 +14,27 @@ returns-then-is_empty-clause-why c = λ all have some.
     ]
 
 pub returns-in_default-clause-why : goal.returns-in_default-clause-why
-returns-in_default-clause-why c = open_have c.args.handles.now (sym c.are_open.ensures ∙ c.if-not-are_open.false)
+returns-in_default-clause-why c =
+    let handles = c.args.handles.now in
+    let have = open_have handles (sym c.are_open.ensures ∙ c.if-not-are_open.false) in
+    (have.0, some_have handles have.0 have.1 (sym c.is_empty.ensures ∙ c.if-is_empty.false), have.1)
 
 pub closed-requires-clause-fit : goal.closed-requires-clause-fit
 closed-requires-clause-fit c =
     have_fit c.args.handles.now (map (λ b. b.value) c.taken_out.result.items) c.taken_out.ensures.taken c.requires.fit
+
+pub returns-in-Ok-closed-clause-closed : goal.returns-in-Ok-closed-clause-closed
+returns-in-Ok-closed-clause-closed c =
+    let handles = c.args.handles.now in
+    let all = map (λ b. b.value) c.taken_out.result.items in
+    let have = c.taken_out.ensures.taken in
+    (
+      all,
+      some_have handles all have (sym c.is_empty.ensures ∙ c.if-is_empty.false),
+      have,
+      c.in-Ok-closed.ensures.free,
+      c.in-Ok-closed.ensures.closed,
+    )
 
 pub returns-in-Ok-closed-clause-fit : goal.returns-in-Ok-closed-clause-fit
 returns-in-Ok-closed-clause-fit c = all_blank_fit c.taken_out.new.handles c.taken_out.ensures.blank
