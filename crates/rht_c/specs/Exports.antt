@@ -17,8 +17,8 @@ use Rattle.rht_session.specs.declared.plain.CReply.{CReply}
 use Rattle.rht_session.specs.Plain.{config_said, c_config}
 use Rattle.rht_session.specs.Sessions.{Ends, LooksUp, Begins, SetsOut}
 use Rattle.rht_session.specs.Closings.{HaveClosed, IsWhyNotClosed}
-use Rattle.rht_session.specs.Handles.{sessions_of, is_blank, IsBlank, HadFree, IsFitHandle, IsNotFree, IsAnswered, IsGoneOn, Shows, AreToOpen, AreOpenedHandles, IsWhyNotOpened}
-use Rattle.rht_session.specs.Told.{opening_code, closing_code, IsTold, IsToldWhole, IsToldFound, IsToldClosed}
+use Rattle.rht_session.specs.Handles.{sessions_of, is_blank, IsBlank, HadUntidied, IsFitHandle, IsNotFree, IsNotTidied, IsAnswered, IsGoneOn, Shows, AreToOpen, AreOpenedHandles, IsWhyNotOpened}
+use Rattle.rht_session.specs.Told.{opening_code, closing_code, IsTold, IsToldWhole, IsToldFound, IsToldClosed, IsToldClosedNow}
 
 -- a table was opened with the rounded config, which is written, or that was refused
 pub record HasOpened (config_before : CConfig) (before : List Handle) (code : ℕ) (config_after : CConfig) (after : List Handle)
@@ -32,11 +32,18 @@ pub record HasOpened (config_before : CConfig) (before : List Handle) (code : �
   pub why : IfErr answer (IsWhyNotOpened (config_said config_before) before)
   pub same : IfErr answer (λ _. (config_after ≡ config_before) × (after ≡ before))
 
--- a handle was closed, or that was refused
+-- a handle was closed that had no nodes to tidy, or that was refused
 pub record HasClosed (before : Handle) (code : ℕ) (after : Handle) : Type 0 where
   pub answer : Result (Unit {0}) Refused
   pub told : code ≡ closing_code answer
-  pub closed : IfOk answer (λ _. IsBlank after × HadFree before)
+  pub closed : IfOk answer (λ _. IsBlank after × HadUntidied before 0)
+  pub refused : IfErr answer (λ refused. IsNotTidied refused before after)
+
+-- a handle was closed, and so many nodes given up that it hadn't tidied, or that was refused
+pub record HasClosedNow (before : Handle) (told_before code told_after : ℕ) (after : Handle) : Type 0 where
+  pub answer : Result ℕ Refused
+  pub told : IsToldClosedNow answer code told_before told_after
+  pub closed : IfOk answer (λ given_up. IsBlank after × HadUntidied before given_up)
   pub refused : IfErr answer (λ refused. IsNotFree refused before after)
 
 -- handles of one table were closed together, or that was refused

@@ -6,9 +6,11 @@ ghost use Rattle.rht_words.specs.Settled.{plain_config};
 ghost use Rattle.rht_session.specs.Plain.{c_config};
 ghost use Rattle.rht_session.specs.Handles.{IsFitHandle};
 ghost use Rattle.rht_session.specs.Closings.{AreOfOneTable};
-ghost use Rattle.rht_c.specs.Exports.{HasOpened, HasClosed, HasClosedAll};
+ghost use Rattle.rht_c.specs.Exports.{HasOpened, HasClosed, HasClosedNow, HasClosedAll};
 
-use rht_session::{CClosed, CConfig, CPair, Handle, told_closing, told_closing_all, told_opening};
+use rht_session::{
+    CClosed, CConfig, CPair, Handle, told_closing, told_closing_all, told_closing_now, told_opening,
+};
 use rht_words::Config;
 use std::alloc::Global;
 
@@ -44,6 +46,16 @@ pub extern "C" fn rht_close(alloc: Global, handle: &mut Handle) -> u32
     ensures closed { HasClosed handle.old result handle.new }
 {
     told_closing(handle.close(alloc))
+}
+
+/// Closes a handle, as `Handle::close_now`, and says how many nodes that gives up.
+#[unsafe(no_mangle)]
+pub extern "C" fn rht_close_now(alloc: Global, handle: &mut Handle, given_up: &mut u32) -> u32
+    requires { IsFitHandle handle.old }
+    ensures fit { IsFitHandle handle.new }
+    ensures closed { HasClosedNow handle.old given_up.old result given_up.new handle.new }
+{
+    told_closing_now(handle.close_now(alloc), given_up)
 }
 
 /// Closes these handles, which are of one table, as `Handle::close_all`. Where the table is closed with that its

@@ -4,7 +4,7 @@ use Rattle.std.specs.Prelude.{nat_eq, nat_le, if◌then◌else◌, Option, Some,
 use Rattle.rht_model.specs.declared.history.Reply.{Reply}
 use Rattle.rht_model.specs.declared.history.Reply.TheVariants.{Bound, Exists, Found, Missing, Listed, Released, Absent, Rebound, TooBig, Again, Busy, NoTable, NoNode, Pending, Elsewhere, Walked, Moved, Idle, Clear, Counted}
 use Rattle.rht_session.specs.declared.refused.Refused.{Refused}
-use Rattle.rht_session.specs.declared.refused.Refused.TheVariants.{NotOpen, InCall, NoCall, NoSteps}
+use Rattle.rht_session.specs.declared.refused.Refused.TheVariants.{NotOpen, InCall, NoCall, NoSteps, Waiting}
 use Rattle.rht_session.specs.declared.plain.CReply.{CReply}
 use Rattle.rht_session.specs.Plain.{cursor_said}
 use Rattle.rht_session.specs.Told.{code_of, refusal_code, fields_of, IsTold, IsToldWhole, TellsApart, TellsWholeApart}
@@ -40,7 +40,8 @@ refusal_read code =
     if nat_eq code 64 then NotOpen
     else if nat_eq code 65 then InCall
     else if nat_eq code 66 then NoCall
-    else NoSteps
+    else if nat_eq code 67 then NoSteps
+    else Waiting
 
 abbrev whole_read : ℕ → CReply → Result Reply Refused
 whole_read code f = if nat_le code 20 then Ok (reply_read code f) else Err (refusal_read code)
@@ -95,12 +96,14 @@ whole_refused NotOpen f = refl
 whole_refused InCall f = refl
 whole_refused NoCall f = refl
 whole_refused NoSteps f = refl
+whole_refused Waiting f = refl
 
 answer_refused : (refused : Refused) (f : CReply) → answer_read (refusal_code refused) f ≡ Err refused
 answer_refused NotOpen f = refl
 answer_refused InCall f = refl
 answer_refused NoCall f = refl
 answer_refused NoSteps f = refl
+answer_refused Waiting f = refl
 
 whole_told : (answer : Result Reply Refused) (code : ℕ) (before after : CReply) → IsToldWhole answer code before after
     → whole_read code after ≡ answer

@@ -7,12 +7,12 @@ use Rattle.rht_model.specs.declared.history.Reply.{Reply}
 use Rattle.rht_session.specs.declared.session.Session.{Session}
 use Rattle.rht_session.specs.declared.handle.Handle.{Handle}
 use Rattle.rht_session.specs.declared.refused.Refused.{Refused}
-use Rattle.rht_session.specs.declared.refused.Refused.TheVariants.{NotOpen, InCall, NoCall, NoSteps}
+use Rattle.rht_session.specs.declared.refused.Refused.TheVariants.{NotOpen, InCall, NoCall, NoSteps, Waiting}
 use Rattle.rht_session.specs.declared.refused.NotOpened.{NotOpened}
 use Rattle.rht_session.specs.declared.refused.NotOpened.TheVariants as reasons
 use Rattle.rht_session.specs.Held.{is_some}
 use Rattle.rht_session.specs.Lists.{shown}
-use Rattle.rht_session.specs.Sessions.{IsFit, is_free, GoesOn, AreOpened}
+use Rattle.rht_session.specs.Sessions.{IsFit, is_free, untidied_of, GoesOn, AreOpened}
 
 -- the session of a handle, where it has one
 abbrev pub sessions_of : Handle → List Session
@@ -33,6 +33,11 @@ Holds handle session = sessions_of handle ≡ session ∷ []
 -- it has one, in no call
 abbrev pub HadFree : Handle → Type 0
 HadFree handle = (session : Session) × Holds handle session × (is_free session ≡ true)
+
+-- and this many nodes that aren't tidied
+abbrev pub HadUntidied : Handle → ℕ → Type 0
+HadUntidied handle nodes =
+    (session : Session) × Holds handle session × (is_free session ≡ true) × (untidied_of session ≡ nodes)
 
 -- it has one, in a call
 abbrev pub HadBusy : Handle → Type 0
@@ -64,6 +69,15 @@ IsNotFree NotOpen before after = IsBlank before × IsBlank after
 IsNotFree InCall before after = Stays false before after
 IsNotFree NoCall before after = ⊥
 IsNotFree NoSteps before after = ⊥
+IsNotFree Waiting before after = ⊥
+
+-- why a handle wasn't closed, where what isn't tidied is not to be given up, and that the handle is as it was
+abbrev pub IsNotTidied : Refused → Handle → Handle → Type 0
+IsNotTidied NotOpen before after = IsNotFree NotOpen before after
+IsNotTidied InCall before after = IsNotFree InCall before after
+IsNotTidied NoCall before after = ⊥
+IsNotTidied NoSteps before after = ⊥
+IsNotTidied Waiting before after = (stays : Stays true before after) × (0 < untidied_of stays.session)
 
 -- why there was no session in a call
 abbrev pub IsNotBusy : Refused → Handle → Handle → Type 0
@@ -71,6 +85,7 @@ IsNotBusy NotOpen before after = IsBlank before × IsBlank after
 IsNotBusy NoCall before after = Stays true before after
 IsNotBusy InCall before after = ⊥
 IsNotBusy NoSteps before after = ⊥
+IsNotBusy Waiting before after = ⊥
 
 -- why a call wasn't gone on with by so many operations
 abbrev pub IsNotGone : ℕ → Refused → Handle → Handle → Type 0
@@ -78,6 +93,7 @@ IsNotGone most NotOpen before after = (0 < most) × IsBlank before × IsBlank af
 IsNotGone most NoCall before after = (0 < most) × Stays true before after
 IsNotGone most NoSteps before after = (most ≡ 0) × (sessions_of after ≡ sessions_of before)
 IsNotGone most InCall before after = ⊥
+IsNotGone most Waiting before after = ⊥
 
 -- a call that asks for a session in no call was made so, or refused
 abbrev pub IsAnswered : {A : Type 0} → (A → Session → Session → Type 0) → Handle → Result A Refused → Handle → Type 0

@@ -18,6 +18,7 @@ use Rattle.rht_run.specs.declared.table.Table.{Table}
 use Rattle.rht_run.specs.declared.pass.Pass.{Pass}
 use Rattle.rht_run.specs.Passes.{IsPassOf, IsSamePass, IsCalling, HasCalled, HasGone, IsNew, seen_by}
 use Rattle.rht_run.specs.Caused.{IsCaused, HasLookedUp}
+use Rattle.rht_run.specs.Untidied.{untidied}
 use Rattle.rht_session.specs.declared.shared.Shared.{Shared}
 use Rattle.rht_session.specs.declared.session.Session.{Session}
 use Rattle.rht_session.specs.declared.session.Session.TheVariants as sessions
@@ -108,6 +109,11 @@ IsFit = Is (λ M mix t pass. IsPassOf mix t pass)
 abbrev pub is_free : Session → Bool
 is_free (sessions.Mix shared) = is_idle shared.pass.local
 is_free (sessions.Low shared) = is_idle shared.pass.local
+
+-- how many nodes its calls took out that aren't given back
+abbrev pub untidied_of : Session → ℕ
+untidied_of (sessions.Mix shared) = untidied shared.pass
+untidied_of (sessions.Low shared) = untidied shared.pass
 
 -- the lists that came with its last call
 abbrev pub owners_of : Session → List ℕ

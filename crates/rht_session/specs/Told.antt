@@ -4,7 +4,7 @@ use Rattle.rht_model.specs.declared.bindings.Closed.{Closed}
 use Rattle.rht_model.specs.declared.history.Reply.{Reply}
 use Rattle.rht_model.specs.declared.history.Reply.TheVariants.{Bound, Exists, Found, Missing, Listed, Released, Absent, Rebound, TooBig, Again, Busy, NoTable, NoNode, Pending, Elsewhere, Walked, Moved, Idle, Clear, Counted}
 use Rattle.rht_session.specs.declared.refused.Refused.{Refused}
-use Rattle.rht_session.specs.declared.refused.Refused.TheVariants.{NotOpen, InCall, NoCall, NoSteps}
+use Rattle.rht_session.specs.declared.refused.Refused.TheVariants.{NotOpen, InCall, NoCall, NoSteps, Waiting}
 use Rattle.rht_session.specs.declared.refused.NotOpened.{NotOpened}
 use Rattle.rht_session.specs.declared.refused.NotOpened.TheVariants as reasons
 use Rattle.rht_session.specs.declared.closing.NotClosed.{NotClosed}
@@ -44,6 +44,7 @@ refusal_code NotOpen = 64
 refusal_code InCall = 65
 refusal_code NoCall = 66
 refusal_code NoSteps = 67
+refusal_code Waiting = 71
 
 abbrev pub opening_code : Result (Unit {0}) NotOpened → ℕ
 opening_code (Ok done) = 32
@@ -118,6 +119,11 @@ owner_told _ before = before
 abbrev pub IsToldFound : Result Reply Refused → ℕ → ℕ → ℕ → Type 0
 IsToldFound (Ok reply) code before after = (code ≡ code_of reply) × (after ≡ owner_told reply before)
 IsToldFound (Err refused) code before after = (code ≡ refusal_code refused) × (after ≡ before)
+
+-- of a closing that gives nodes up: how many
+abbrev pub IsToldClosedNow : Result ℕ Refused → ℕ → ℕ → ℕ → Type 0
+IsToldClosedNow (Ok given_up) code before after = (code ≡ 33) × (after ≡ given_up)
+IsToldClosedNow (Err refused) code before after = (code ≡ refusal_code refused) × (after ≡ before)
 
 -- of the closing of several handles: where a table was closed its bindings are written, as far as there is room for them, with how many
 -- were written, how many ports are bound, and the size of its current table

@@ -49,6 +49,8 @@ pub const OPENED: u32 = 32;
 pub const CLOSED: u32 = 33;
 /// All handles of a table were closed, and the table with them.
 pub const ENDED: u32 = 34;
+/// A config was filled.
+pub const READY: u32 = 35;
 
 /// Refusals of calls on a handle.
 pub const NOT_OPEN: u32 = 64;
@@ -58,6 +60,14 @@ pub const IN_CALL: u32 = 65;
 pub const NO_CALL: u32 = 66;
 
 pub const NO_STEPS: u32 = 67;
+/// These three are kept for calls to come, and none answers them yet.
+pub const HELD: u32 = 68;
+
+pub const NOT_HELD: u32 = 69;
+
+pub const TIDY_FIRST: u32 = 70;
+
+pub const WAITING: u32 = 71;
 
 /// Refusals of an opening.
 pub const BAD_CONFIG: u32 = 80;
@@ -67,3 +77,8 @@ pub const BAD_COUNT: u32 = 81;
 pub const STILL_OPEN: u32 = 82;
 
 pub const NO_MEMORY: u32 = 83;
+
+/// Refusals of a closing of handles of several tables, and of a config for which no seed can be had.
+pub const TWO_TABLES: u32 = 84;
+
+pub const NO_SEED: u32 = 85;

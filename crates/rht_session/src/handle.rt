@@ -31,7 +31,7 @@ impl Handle {
     ghost use Rattle.rht_model.specs.declared.history.Call.TheVariants.{Find, Walk, Tidy, Count};
     ghost use Rattle.rht_session.specs.Held.{is_some};
     ghost use Rattle.rht_session.specs.Sessions.{is_free, owners_of, pairs_of, Ends, LooksUp, Begins, SetsOut};
-    ghost use Rattle.rht_session.specs.Handles.{sessions_of, IsBlank, Holds, HadFree, HadBusy, IsFitHandle, IsNotFree, IsNotBusy, IsAnswered, IsGoneOn, Shows};
+    ghost use Rattle.rht_session.specs.Handles.{sessions_of, IsBlank, Holds, HadFree, HadUntidied, HadBusy, IsFitHandle, IsNotFree, IsNotTidied, IsNotBusy, IsAnswered, IsGoneOn, Shows};
 
     /// A handle without a session.
     pub fn blank(alloc: Global) -> Handle
@@ -95,6 +95,16 @@ impl Handle {
             return Err(Refused::InCall);
         }
         Ok(())
+    }
+
+    /// How many nodes the handle hasn't tidied, where it can be closed, and otherwise why it can't.
+    fn untidied(&mut self) -> Result<u32, Refused>
+        ensures same { sessions_of self.new ≡ sessions_of self.old }
+        ensures nodes { IfOk result (HadUntidied self.new) }
+        ensures refused { IfErr result (λ refused. IsNotFree refused self.old self.new) }
+    {
+        self.need_free()?;
+        Ok(self.address.session().untidied())
     }
 
     /// Whether a call can be gone on with, and otherwise why not.
@@ -210,18 +220,34 @@ impl Handle {
         Ok(write_pairs(self.address.session().pairs(), skip, into))
     }
 
-    /// Closes the handle, which is blank then. Its number is given to no other. The nodes that its calls took out
-    /// and that it hasn't tidied stay taken while others are open; the last one of a table frees all (tested).
-    /// Refused are `NotOpen` and `InCall`. The kernel's counterpart is `rhashtable_destroy`.
+    /// Closes the handle, which is blank then. Its number is given to no other. The last one of a table frees all
+    /// (tested). Refused are `NotOpen`, `InCall`, and `Waiting` where its calls took nodes out that it hasn't
+    /// tidied: closed it couldn't, and they would be lost to the others. The kernel's counterpart is
+    /// `rhashtable_destroy`.
     pub fn close(&mut self, alloc: Global) -> Result<(), Refused>
         requires { IsFitHandle self.old }
         ensures fit { IsFitHandle self.new }
-        ensures closed { IfOk result (λ _. IsBlank self.new × HadFree self.old) }
-        ensures refused { IfErr result (λ refused. IsNotFree refused self.old self.new) }
+        ensures closed { IfOk result (λ _. IsBlank self.new × HadUntidied self.old 0) }
+        ensures refused { IfErr result (λ refused. IsNotTidied refused self.old self.new) }
     {
-        self.need_free()?;
+        if self.untidied()? > 0 {
+            return Err(Refused::Waiting);
+        }
         self.let_go(alloc);
         Ok(())
+    }
+
+    /// Closes the handle, as `close`, also where nodes aren't tidied. Those are given up: they stay taken until
+    /// the table ends, and it says how many they are. Refused are `NotOpen` and `InCall`.
+    pub fn close_now(&mut self, alloc: Global) -> Result<u32, Refused>
+        requires { IsFitHandle self.old }
+        ensures fit { IsFitHandle self.new }
+        ensures closed { IfOk result (λ given_up. IsBlank self.new × HadUntidied self.old given_up) }
+        ensures refused { IfErr result (λ refused. IsNotFree refused self.old self.new) }
+    {
+        let given_up = self.untidied()?;
+        self.let_go(alloc);
+        Ok(given_up)
     }
 
     /// Lets the session go, where there is one, and leaves a blank handle.

@@ -11,6 +11,8 @@ pub enum Refused {
     NoCall,
     /// To go on by no operation was asked.
     NoSteps,
+    /// The handle has nodes that aren't tidied, which would stay taken; a closing alone is refused so.
+    Waiting,
 }
 
 /// Why no table was opened. The handles are as they were.

@@ -6,7 +6,7 @@ ghost use Rattle.std.specs.Prelude.{◌≡◌, ◌<◌, true, false, IfOk, map};
 ghost use Rattle.rht_words.specs.Settled.{IsSettled};
 ghost use Rattle.rht_model.specs.declared.history.Call.TheVariants.{Find, Walk, Tidy, Count};
 ghost use Rattle.rht_session.specs.declared.session.Session.TheVariants as sessions;
-ghost use Rattle.rht_session.specs.Sessions.{IsFit, is_free, owners_of, pairs_of, Ends, LooksUp, Begins, SetsOut, GoesOn, AreOpened};
+ghost use Rattle.rht_session.specs.Sessions.{IsFit, is_free, untidied_of, owners_of, pairs_of, Ends, LooksUp, Begins, SetsOut, GoesOn, AreOpened};
 
 use crate::shared::Shared;
 use rht_model::{Call, Cursor, Reply};
@@ -44,6 +44,16 @@ impl Session {
         match self {
             Session::Mix(shared) => shared.is_free(),
             Session::Low(shared) => shared.is_free(),
+        }
+    }
+
+    /// How many nodes the session's calls took out that aren't given back, where it is in no call.
+    pub fn untidied(&self) -> u32
+        ensures { result ≡ untidied_of self.now }
+    {
+        match self {
+            Session::Mix(shared) => shared.untidied(),
+            Session::Low(shared) => shared.untidied(),
         }
     }
 

@@ -11,6 +11,7 @@ ghost use Rattle.rht_core.specs.Locals.{is_idle};
 ghost use Rattle.rht_core.specs.Runs.{IsAdmittedCall};
 ghost use Rattle.rht_run.specs.Passes.{IsPassOf};
 ghost use Rattle.rht_run.specs.Caused.{HasLookedUp};
+ghost use Rattle.rht_run.specs.Untidied.{untidied};
 ghost use Rattle.rht_session.specs.Sessions.{table_of, HasEnded, HasBegun, HasSetOut, HasGoneOn, AreAllNew};
 
 use rht_model::{Call, Cursor, Reply};
@@ -33,6 +34,13 @@ impl<M: Mix> Shared<M> {
         ensures { result ≡ is_idle self.now.pass.local }
     {
         self.pass.is_idle()
+    }
+
+    /// How many nodes its calls took out that aren't given back, as `Pass::untidied`.
+    pub fn untidied(&self) -> u32
+        ensures { result ≡ untidied self.now.pass }
+    {
+        self.pass.untidied()
     }
 
     /// Looks a port up, as `Table::find`.

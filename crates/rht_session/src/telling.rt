@@ -1,7 +1,7 @@
 //! Answers as C gets them: a code, and the numbers that come with a reply.
 
 ghost use Rattle.std.specs.Prelude.{◌≡◌};
-ghost use Rattle.rht_session.specs.Told.{code_of, refusal_code, opening_code, closing_code, fields_of, IsTold, IsToldWhole, IsToldFound, IsToldClosed};
+ghost use Rattle.rht_session.specs.Told.{code_of, refusal_code, opening_code, closing_code, fields_of, IsTold, IsToldWhole, IsToldFound, IsToldClosed, IsToldClosedNow};
 
 use crate::closing::NotClosed;
 use crate::codes;
@@ -95,6 +95,19 @@ pub fn told_closing(answer: Result<(), Refused>) -> u32
     }
 }
 
+/// Says what a closing came to that gives nodes up, and how many these are.
+pub fn told_closing_now(answer: Result<u32, Refused>, given_up: &mut u32) -> u32
+    ensures { IsToldClosedNow answer result given_up.old given_up.new }
+{
+    match answer {
+        Ok(nodes) => {
+            *given_up = nodes;
+            codes::CLOSED
+        }
+        Err(refused) => refusal_code(refused),
+    }
+}
+
 /// Says what the closing of several handles came to: where the table was closed, its bindings and what it was.
 pub fn told_closing_all(
     answer: Result<Option<Closed>, NotClosed>,
@@ -129,6 +142,7 @@ fn refusal_code(refused: Refused) -> u32
         Refused::InCall => codes::IN_CALL,
         Refused::NoCall => codes::NO_CALL,
         Refused::NoSteps => codes::NO_STEPS,
+        Refused::Waiting => codes::WAITING,
     }
 }
 
