@@ -1,5 +1,5 @@
 -- What exports do: what the calls on handles do, and C is told how each ended.
-use Rattle.std.specs.Prelude.{◌≡◌, ℕ, true, Option, Result, MatchResult, IfOk, IfErr, List, map}
+use Rattle.std.specs.Prelude.{◌≡◌, ℕ, ◌⊎◌, true, false, Option, Result, MatchResult, IfOk, IfErr, List, map}
 use Rattle.std.specs.List.{AllByRecursion, list_all}
 use Rattle.rht_model.specs.declared.bindings.Closed.{Closed}
 use Rattle.rht_model.specs.declared.history.Call.{Call}
@@ -9,16 +9,27 @@ use Rattle.rht_session.specs.declared.session.Session.{Session}
 use Rattle.rht_session.specs.declared.handle.Handle.{Handle}
 use Rattle.rht_session.specs.declared.refused.Refused.{Refused}
 use Rattle.rht_session.specs.declared.refused.NotOpened.{NotOpened}
+use Rattle.rht_session.specs.declared.refused.NotOpened.TheVariants as reasons
 use Rattle.rht_session.specs.declared.closing.NotClosed.{NotClosed}
 use Rattle.rht_session.specs.declared.plain.CPair.{CPair}
 use Rattle.rht_session.specs.declared.plain.CClosed.{CClosed}
 use Rattle.rht_session.specs.declared.plain.CConfig.{CConfig}
 use Rattle.rht_session.specs.declared.plain.CReply.{CReply}
-use Rattle.rht_session.specs.Plain.{config_said, c_config}
+use Rattle.rht_session.specs.Plain.{config_said, has_no_spare, c_config}
 use Rattle.rht_session.specs.Sessions.{Ends, LooksUp, Begins, SetsOut}
 use Rattle.rht_session.specs.Closings.{HaveClosed, IsWhyNotClosed}
 use Rattle.rht_session.specs.Handles.{sessions_of, is_blank, IsBlank, HadUntidied, IsFitHandle, IsNotFree, IsNotTidied, IsAnswered, IsGoneOn, Shows, AreToOpen, AreOpenedHandles, IsWhyNotOpened}
 use Rattle.rht_session.specs.Told.{opening_code, closing_code, IsTold, IsToldWhole, IsToldFound, IsToldClosed, IsToldClosedNow}
+
+-- a table can be opened with this config by these handles: also its spare words are 0
+abbrev pub CanOpen : CConfig → List Handle → Type 0
+CanOpen config handles = (has_no_spare config ≡ true) × AreToOpen (config_said config) handles
+
+-- why none was opened: a spare word isn't 0, or the first reason that there is otherwise
+abbrev pub IsWhyNone : CConfig → List Handle → NotOpened → Type 0
+IsWhyNone config handles why =
+    ((has_no_spare config ≡ false) × (why ≡ reasons.Config))
+    ⊎ ((has_no_spare config ≡ true) × IsWhyNotOpened (config_said config) handles why)
 
 -- a table was opened with the rounded config, which is written, or that was refused
 pub record HasOpened (config_before : CConfig) (before : List Handle) (code : ℕ) (config_after : CConfig) (after : List Handle)
@@ -27,9 +38,9 @@ pub record HasOpened (config_before : CConfig) (before : List Handle) (code : �
   pub told : code ≡ opening_code answer
   pub opened : IfOk answer (λ _. AreOpenedHandles (config_said config_before) after)
   pub fit : IfOk answer (λ _. AllByRecursion IsFitHandle after)
-  pub due : IfOk answer (λ _. AreToOpen (config_said config_before) before)
+  pub due : IfOk answer (λ _. CanOpen config_before before)
   pub written : IfOk answer (λ _. config_after ≡ c_config (config_said config_before))
-  pub why : IfErr answer (IsWhyNotOpened (config_said config_before) before)
+  pub why : IfErr answer (IsWhyNone config_before before)
   pub same : IfErr answer (λ _. (config_after ≡ config_before) × (after ≡ before))
 
 -- a handle was closed that had no nodes to tidy, or that was refused

@@ -9,25 +9,29 @@ ghost use Rattle.rht_session.specs.Closings.{AreOfOneTable};
 ghost use Rattle.rht_c.specs.Exports.{HasOpened, HasClosed, HasClosedNow, HasClosedAll};
 
 use rht_session::{
-    CClosed, CConfig, CPair, Handle, told_closing, told_closing_all, told_closing_now, told_opening,
+    CClosed, CConfig, CPair, Handle, NotOpened, told_closing, told_closing_all, told_closing_now,
+    told_opening,
 };
 use rht_words::Config;
 use std::alloc::Global;
 
 /// Fills a config, as `Config::plain`.
 #[unsafe(no_mangle)]
-pub extern "C" fn rht_config_init(config: &mut CConfig)
+pub extern "C" fn rht_config_plain(config: &mut CConfig)
     ensures { config.new ≡ c_config plain_config }
 {
     *config = CConfig::of(Config::plain());
 }
 
 /// Opens a table, as `Handle::open`, with the config rounded as `CConfig::config` does. Where it is opened the
-/// config says with what.
+/// config says with what. With spare words that aren't 0 it is refused as one with which no table can be opened.
 #[unsafe(no_mangle)]
 pub extern "C" fn rht_open(alloc: Global, config: &mut CConfig, handles: &mut [Handle]) -> u32
     ensures { HasOpened config.old handles.old result config.new handles.new }
 {
+    if !config.has_no_spare() {
+        return told_opening(Err(NotOpened::Config));
+    }
     let rounded = config.config();
     match Handle::open(alloc, rounded, handles) {
         Ok(()) => {

@@ -1,5 +1,6 @@
 -- What the structs that C lays out say, and how they say it.
-use Rattle.std.specs.Prelude.{ℕ, Bool, true, false, nat_le, max, if◌then◌else◌, Option, Some, None}
+use Rattle.std.specs.Prelude.{◌==◌, ℕ, Bool, true, false, nat_le, max, if◌then◌else◌, Option, Some, None, List, [], ◌∷◌}
+use Rattle.std.specs.List.{list_all}
 use Rattle.rht_words.specs.Ports.{port_at, net_of, number_of}
 use Rattle.rht_words.specs.Limits.{min_limits, max_limits, least_size}
 use Rattle.rht_words.specs.Sizes.{rounded_up, rounded_down}
@@ -32,7 +33,16 @@ abbrev pub c_cursor : Option Cursor → CCursor
 c_cursor None = record { serial = 0; bucket = 0; more = false }
 c_cursor (Some cursor) = record { serial = cursor.serial; bucket = cursor.bucket; more = true }
 
+-- ---- words for fields to come
+
+abbrev pub no_spare : List ℕ
+no_spare = 0 ∷ 0 ∷ 0 ∷ 0 ∷ 0 ∷ 0 ∷ 0 ∷ 0 ∷ []
+
 -- ---- configs
+
+-- whether each spare word is 0, as it has to be
+abbrev pub has_no_spare : CConfig → Bool
+has_no_spare config = list_all (λ word. word == 0) config.spare
 
 -- sizes within their limits are rounded to powers of two, and others stay
 abbrev pub least_said : ℕ → ℕ
@@ -77,4 +87,5 @@ c_config config = record {
   listed = is_listed config.kind;
   low = is_low config.hash;
   shrink = config.shrink;
+  spare = no_spare;
 }

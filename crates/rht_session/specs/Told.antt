@@ -12,7 +12,7 @@ use Rattle.rht_session.specs.declared.closing.NotClosed.TheVariants as not_close
 use Rattle.rht_session.specs.declared.plain.CPair.{CPair}
 use Rattle.rht_session.specs.declared.plain.CClosed.{CClosed}
 use Rattle.rht_session.specs.declared.plain.CReply.{CReply}
-use Rattle.rht_session.specs.Plain.{c_pair, c_cursor}
+use Rattle.rht_session.specs.Plain.{c_pair, c_cursor, no_spare}
 use Rattle.rht_session.specs.Lists.{all_owned, IsWritten}
 
 -- ---- codes
@@ -73,6 +73,7 @@ no_numbers = record {
   caller = 0;
   kick = false;
   again = false;
+  spare = no_spare;
 }
 
 abbrev pub fields_of : Reply → CReply
@@ -130,7 +131,7 @@ IsToldClosedNow (Err refused) code before after = (code ≡ refusal_code refused
 abbrev pub IsToldClosed : Result (Option Closed) NotClosed → ℕ → List CPair → List CPair → CClosed → CClosed → Type 0
 IsToldClosed (Ok (Some closed)) code before after told_before told_after =
     (code ≡ 34) × IsWritten before (map c_pair (all_owned closed.bindings.pairs)) told_after.len after
-    × (told_after.keys ≡ closed.keys) × (told_after.size ≡ closed.size)
+    × (told_after.keys ≡ closed.keys) × (told_after.size ≡ closed.size) × (told_after.spare ≡ no_spare)
 IsToldClosed (Ok None) code before after told_before told_after = (code ≡ 33) × (after ≡ before) × (told_after ≡ told_before)
 IsToldClosed (Err not_closed.NotOpen) code before after told_before told_after = (code ≡ 64) × (after ≡ before) × (told_after ≡ told_before)
 IsToldClosed (Err not_closed.InCall) code before after told_before told_after = (code ≡ 65) × (after ≡ before) × (told_after ≡ told_before)

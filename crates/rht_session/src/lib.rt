@@ -23,7 +23,7 @@ mod telling;
 
 pub use closing::NotClosed;
 pub use handle::Handle;
-pub use plain::{CClosed, CConfig, CCursor, CPair, CPort, CReply};
+pub use plain::{CClosed, CConfig, CCursor, CPair, CPort, CReply, NO_SPARE};
 pub use refused::{NotOpened, Refused};
 pub use session::Session;
 pub use shared::Shared;

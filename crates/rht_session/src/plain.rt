@@ -1,7 +1,7 @@
 //! Numbers and flags as C lays them out.
 
 ghost use Rattle.std.specs.Prelude.{◌≡◌};
-ghost use Rattle.rht_session.specs.Plain.{port_said, c_pair, cursor_said, c_cursor, least_said, greatest_said, config_said, c_config};
+ghost use Rattle.rht_session.specs.Plain.{port_said, c_pair, cursor_said, c_cursor, least_said, greatest_said, config_said, has_no_spare, c_config};
 
 use rht_model::Cursor;
 use rht_words::limits::{LEAST_SIZE, MAX, MIN};
@@ -32,7 +32,11 @@ pub struct CCursor {
     pub more: bool,
 }
 
-/// What a table is opened with. The fields are those of `Config`; `listed` and `low` say its kind and hash.
+/// Words for fields to come, which are 0 until then.
+pub const NO_SPARE: [u32; 8] = [0, 0, 0, 0, 0, 0, 0, 0];
+
+/// What a table is opened with. The fields are those of `Config`; `listed` and `low` say its kind and hash. With
+/// spare words that aren't 0 none is opened.
 #[repr(C)]
 #[derive(Clone, Copy, Debug, PartialEq, Eq)]
 pub struct CConfig {
@@ -47,6 +51,7 @@ pub struct CConfig {
     pub listed: bool,
     pub low: bool,
     pub shrink: bool,
+    pub spare: [u32; 8],
 }
 
 /// The numbers that come with a reply. A field that the reply hasn't is 0.
@@ -65,6 +70,7 @@ pub struct CReply {
     pub caller: u32,
     pub kick: bool,
     pub again: bool,
+    pub spare: [u32; 8],
 }
 
 /// What a table was at its end: how many of its bindings were written, how many ports were bound, and the size of
@@ -75,6 +81,7 @@ pub struct CClosed {
     pub len: u64,
     pub keys: u32,
     pub size: u32,
+    pub spare: [u32; 8],
 }
 
 impl CPort {
@@ -166,6 +173,13 @@ impl CConfig {
         }
     }
 
+    /// Whether its spare words are all 0.
+    pub fn has_no_spare(&self) -> bool
+        ensures { result ≡ has_no_spare self.now }
+    {
+        self.spare.iter().all(|word| *word == 0)
+    }
+
     /// The config as C has it.
     pub fn of(config: Config) -> CConfig
         ensures { result ≡ c_config config }
@@ -182,6 +196,7 @@ impl CConfig {
             listed: config.kind == Kind::Listed,
             low: config.hash == Hash::Low,
             shrink: config.shrink,
+            spare: NO_SPARE,
         }
     }
 }

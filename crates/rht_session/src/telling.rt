@@ -6,7 +6,7 @@ ghost use Rattle.rht_session.specs.Told.{code_of, refusal_code, opening_code, cl
 use crate::closing::NotClosed;
 use crate::codes;
 use crate::lists::write_bindings;
-use crate::plain::{CClosed, CCursor, CPair, CReply};
+use crate::plain::{CClosed, CCursor, CPair, CReply, NO_SPARE};
 use crate::refused::{NotOpened, Refused};
 use rht_model::{Closed, Reply};
 
@@ -28,6 +28,7 @@ const NOTHING: CReply = CReply {
     caller: 0,
     kick: false,
     again: false,
+    spare: NO_SPARE,
 };
 
 /// Says what a call came to that may be in progress still.
@@ -123,6 +124,7 @@ pub fn told_closing_all(
                 len,
                 keys: closed.keys,
                 size: closed.size,
+                spare: NO_SPARE,
             };
             codes::ENDED
         }

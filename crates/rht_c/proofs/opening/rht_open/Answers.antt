@@ -1,9 +1,22 @@
-use Rattle.std.proofs.Common.{refl, ap, ◌∙◌, subst}
+use Rattle.std.proofs.Common.{inl, inr, refl, sym, ap, ◌∙◌, subst}
 use Rattle.std.specs.Prelude.{Ok, Err}
 use Rattle.rht_words.specs.declared.config.Config.{Config}
+use Rattle.rht_session.specs.declared.refused.NotOpened.TheVariants as reasons
 use Rattle.rht_session.specs.Plain.{c_config}
 use Rattle.rht_session.specs.Handles.{AreToOpen, AreOpenedHandles, IsWhyNotOpened}
 use Rattle.rht_c.proofs.opening.rht_open.Goals as goal
+
+pub returns-then-not-has_no_spare : goal.returns-then-not-has_no_spare
+returns-then-not-has_no_spare c = record {
+  answer = Err reasons.Config;
+  told = c.told_opening.ensures;
+  opened = tt;
+  fit = tt;
+  due = tt;
+  written = tt;
+  why = inl (sym c.has_no_spare.ensures ∙ c.if-not-has_no_spare.true, refl);
+  same = (refl, refl);
+}
 
 pub returns-in-Ok : goal.returns-in-Ok
 returns-in-Ok c =
@@ -14,7 +27,10 @@ returns-in-Ok c =
       told = c.told_opening.ensures;
       opened = subst (λ (config : Config). AreOpenedHandles config c.open.new.into) rounded done.opened;
       fit = done.fit;
-      due = subst (λ (config : Config). AreToOpen config c.args.handles.now) rounded done.due;
+      due = (
+        sym c.has_no_spare.ensures ∙ c.if-not-has_no_spare.false,
+        subst (λ (config : Config). AreToOpen config c.args.handles.now) rounded done.due,
+      );
       written = c.of.ensures ∙ ap c_config rounded;
       why = tt;
       same = tt;
@@ -31,6 +47,9 @@ returns-in-Err c =
       fit = tt;
       due = tt;
       written = tt;
-      why = subst (λ (config : Config). IsWhyNotOpened config c.args.handles.now c.in-Err.why) rounded done.why;
+      why = inr (
+        sym c.has_no_spare.ensures ∙ c.if-not-has_no_spare.false,
+        subst (λ (config : Config). IsWhyNotOpened config c.args.handles.now c.in-Err.why) rounded done.why,
+      );
       same = (refl, done.same);
     }
