@@ -8,7 +8,9 @@ use Rattle.rht_session.specs.declared.handle.Handle.{Handle}
 use Rattle.rht_session.specs.Sessions.{IsFit}
 use Rattle.rht_session.specs.Held.{one_if, is_some}
 use Rattle.rht_session.specs.Handles.{sessions_of, is_blank, IsBlank, Holds, IsFitHandle}
-use Rattle.rht_session.specs.Closings.{HaveAll}
+use Rattle.rht_session.specs.Closings.{HaveAll, IsWhyNotClosed, IsWhyKept}
+use Rattle.rht_session.specs.declared.closing.NotClosed.{NotClosed}
+use Rattle.rht_session.specs.declared.closing.NotClosed.TheVariants as reasons
 use Rattle.rht_session.proofs.OneSession.{the_one, told_is_some}
 
 -- ---- a test of all, with one more
@@ -106,6 +108,14 @@ open_have (handle ∷ handles) are =
     let one = the_one (sessions_of handle) (handle.told ∙ ap one_if in_use) in
     let others = open_have handles both.1 in
     (one.0 ∷ others.0, ap (λ l. l ∷ map sessions_of handles) one.1 ∙ ap (λ l. (one.0 ∷ []) ∷ l) others.1)
+
+-- why their sessions were kept is why they weren't closed
+pub why_kept : (handles : List Handle) (all : List Session) → HaveAll handles all → 0 < length all → (why : NotClosed) → IsWhyKept all why
+    → IsWhyNotClosed handles why
+why_kept handles all have some reasons.NotOpen is = absurd is
+why_kept handles all have some reasons.TwoTables is = (all, is, have)
+why_kept handles all have some reasons.InCall is = (all, some, have, is)
+why_kept handles all have some reasons.Memory is = (all, some, have)
 
 -- ---- taking them out
 

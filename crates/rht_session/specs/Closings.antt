@@ -57,10 +57,11 @@ abbrev pub HaveClosed : List Handle → Option Closed → Type 0
 HaveClosed handles closed =
     (all : List Session) × (0 < length all) × HaveAll handles all × (list_all is_free all ≡ true) × IfSome closed (AreClosedWith all)
 
--- Why nothing was closed. Where there is no handle, or one of them is blank, that is the reason; memory may be refused before it is
--- looked whether one of them is in a call.
+-- Why nothing was closed. Where there is no handle, or one of them is blank, that is the reason. Several tables are found only among
+-- several handles. Memory may be refused before it is looked whether one of them is in a call.
 abbrev pub IsWhyNotClosed : List Handle → NotClosed → Type 0
 IsWhyNotClosed handles reasons.NotOpen = (all : List Session) → HaveAll handles all → 0 < length all → ⊥
+IsWhyNotClosed handles reasons.TwoTables = (all : List Session) × (1 < length all) × HaveAll handles all
 IsWhyNotClosed handles reasons.InCall =
     (all : List Session) × (0 < length all) × HaveAll handles all × (list_all is_free all ≡ false)
 IsWhyNotClosed handles reasons.Memory = (all : List Session) × (0 < length all) × HaveAll handles all
@@ -68,6 +69,7 @@ IsWhyNotClosed handles reasons.Memory = (all : List Session) × (0 < length all)
 -- why sessions were kept
 abbrev pub IsWhyKept : List Session → NotClosed → Type 0
 IsWhyKept all reasons.NotOpen = ⊥
+IsWhyKept all reasons.TwoTables = 1 < length all
 IsWhyKept all reasons.InCall = list_all is_free all ≡ false
 IsWhyKept all reasons.Memory = Unit {0}
 

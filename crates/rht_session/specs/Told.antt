@@ -134,6 +134,7 @@ IsToldClosed (Ok (Some closed)) code before after told_before told_after =
     × (told_after.keys ≡ closed.keys) × (told_after.size ≡ closed.size) × (told_after.spare ≡ no_spare)
 IsToldClosed (Ok None) code before after told_before told_after = (code ≡ 33) × (after ≡ before) × (told_after ≡ told_before)
 IsToldClosed (Err not_closed.NotOpen) code before after told_before told_after = (code ≡ 64) × (after ≡ before) × (told_after ≡ told_before)
+IsToldClosed (Err not_closed.TwoTables) code before after told_before told_after = (code ≡ 84) × (after ≡ before) × (told_after ≡ told_before)
 IsToldClosed (Err not_closed.InCall) code before after told_before told_after = (code ≡ 65) × (after ≡ before) × (told_after ≡ told_before)
 IsToldClosed (Err not_closed.Memory) code before after told_before told_after = (code ≡ 83) × (after ≡ before) × (told_after ≡ told_before)
 

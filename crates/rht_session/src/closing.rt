@@ -2,7 +2,7 @@
 //!
 //! All memory is taken before the first session leaves its box, and from then on nothing is refused.
 
-ghost use Rattle.std.specs.Prelude.{◌≡◌, ◌<◌, ◌≤◌, [], ◌∷◌, true, length, map, vec_capacity, IfOk, IfErr, IfSome};
+ghost use Rattle.std.specs.Prelude.{◌≡◌, ◌<◌, ◌≤◌, [], ◌∷◌, true, false, length, map, vec_capacity, IfOk, IfErr, IfSome};
 ghost use Rattle.std.specs.Arc.{arc_value};
 ghost use Rattle.std.specs.List.{AllByRecursion, list_all};
 ghost use Rattle.rht_policy.specs.Mix.{final_mix, low_mix};
@@ -31,6 +31,8 @@ use std::sync::Arc;
 pub enum NotClosed {
     /// There is no handle, or one of them is blank.
     NotOpen,
+    /// They were found to be of several tables. Where they are of one this doesn't come (tested).
+    TwoTables,
     /// One of the sessions is in a call.
     InCall,
     /// Memory has run out, and none of it stays taken.
@@ -55,7 +57,8 @@ impl Handle {
     /// Closes all these handles, which are of one table and are blank then. Where no other handle of the table
     /// is open, the table is closed, and what was bound at its end is given, as by `Table::close`. Otherwise
     /// they are closed each by itself, as by `close`. All memory is taken before a session leaves its box.
-    /// Refused are `NotOpen`, and behind that `InCall` and `Memory`, of which either may come first. The kernel's
+    /// Refused are `NotOpen`, and behind that `TwoTables`, `InCall` and `Memory`, of which any may come first. No
+    /// clause excludes `TwoTables`, since none says of two sessions that they don't share a table. The kernel's
     /// counterpart is `rhashtable_free_and_destroy`.
     pub fn close_all(alloc: Global, handles: &mut [Handle]) -> Result<Option<Closed>, NotClosed>
         requires fit { AllByRecursion IsFitHandle handles.old }
@@ -128,6 +131,12 @@ fn closed(alloc: Global, sessions: Vec<Box<Session>>) -> Result<Option<Closed>, 
     ensures kept { IfErr result (λ kept. kept.sessions.items ≡ sessions.items) }
     ensures why { IfErr result (λ kept. IsWhyKept (map (λ b. b.value) sessions.items) kept.why) }
 {
+    if !are_together(&sessions) {
+        return Err(Kept {
+            sessions,
+            why: NotClosed::TwoTables,
+        });
+    }
     if !are_free(&sessions) {
         return Err(Kept {
             sessions,
@@ -142,6 +151,18 @@ fn closed(alloc: Global, sessions: Vec<Box<Session>>) -> Result<Option<Closed>, 
             why: NotClosed::Memory,
         }),
     }
+}
+
+/// Whether all of these are of the table of the first one (tested).
+fn are_together(sessions: &[Box<Session>]) -> bool
+    ensures { result ≡ false → 1 < length sessions.now }
+{
+    for place in 1..sessions.len() {
+        if !sessions[0].is_beside(&sessions[place]) {
+            return false;
+        }
+    }
+    true
 }
 
 /// Whether all of these are in no call.
@@ -183,7 +204,8 @@ fn mixed_closed(
     let mut table = None;
     for session in sessions {
         match Box::into_inner(session) {
-            Session::Mix(Shared { table: own, pass }) => {
+            Session::Mix(Shared { table: own, pass, mark }) => {
+                drop(mark);
                 table = Some(own);
                 passes.push_reserved(pass);
             }
@@ -209,7 +231,8 @@ fn low_closed(
     let mut table = None;
     for session in sessions {
         match Box::into_inner(session) {
-            Session::Low(Shared { table: own, pass }) => {
+            Session::Low(Shared { table: own, pass, mark }) => {
+                drop(mark);
                 table = Some(own);
                 passes.push_reserved(pass);
             }

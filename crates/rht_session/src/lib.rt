@@ -13,6 +13,7 @@ pub mod codes;
 mod handle;
 pub mod laws;
 mod lists;
+mod marks;
 mod opening;
 mod parts;
 mod plain;

@@ -8,6 +8,7 @@ ghost use Rattle.rht_model.specs.declared.history.Call.TheVariants.{Find, Walk, 
 ghost use Rattle.rht_session.specs.declared.session.Session.TheVariants as sessions;
 ghost use Rattle.rht_session.specs.Sessions.{IsFit, is_free, untidied_of, owners_of, pairs_of, Ends, LooksUp, Begins, SetsOut, GoesOn, AreOpened};
 
+use crate::marks::Mark;
 use crate::shared::Shared;
 use rht_model::{Call, Cursor, Reply};
 use rht_policy::{Lookup3, Low};
@@ -160,6 +161,18 @@ impl Session {
         match self {
             Session::Mix(shared) => shared.go_on(most),
             Session::Low(shared) => shared.go_on(most),
+        }
+    }
+
+    /// Whether both sessions have one table (tested; `marks` says how far).
+    pub(crate) fn is_beside(&self, other: &Session) -> bool {
+        self.mark().is_beside(other.mark())
+    }
+
+    fn mark(&self) -> &Mark {
+        match self {
+            Session::Mix(shared) => &shared.mark,
+            Session::Low(shared) => &shared.mark,
         }
     }
 

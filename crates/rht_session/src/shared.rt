@@ -14,11 +14,13 @@ ghost use Rattle.rht_run.specs.Caused.{HasLookedUp};
 ghost use Rattle.rht_run.specs.Untidied.{untidied};
 ghost use Rattle.rht_session.specs.Sessions.{table_of, HasEnded, HasBegun, HasSetOut, HasGoneOn, AreAllNew};
 
+use crate::marks::Mark;
 use rht_model::{Call, Cursor, Reply};
 use rht_policy::Mix;
 use rht_run::{Pass, Table};
 use rht_words::{Config, Port, word_of};
 use std::alloc::{AllocError, Global};
+use std::mem::replace;
 use std::sync::Arc;
 
 /// A table that other sessions share, and one of its passes. The last one that goes frees the table (tested).
@@ -26,6 +28,7 @@ use std::sync::Arc;
 pub struct Shared<M: Mix> {
     pub(crate) table: Arc<Table<M>, Global>,
     pub(crate) pass: Pass<M>,
+    pub(crate) mark: Mark,
 }
 
 impl<M: Mix> Shared<M> {
@@ -123,8 +126,8 @@ impl<M: Mix> Shared<M> {
 
     /// Gives the table up. The last one that does frees it (tested).
     pub(crate) fn give_up(self) {
-        let Shared { table, pass } = self;
-        drop(pass);
+        let Shared { table, pass, mark } = self;
+        drop((pass, mark));
         drop(Arc::into_inner(table));
     }
 
@@ -152,10 +155,13 @@ impl<M: Mix> Shared<M> {
         let Ok(first) = Arc::new(alloc, table) else {
             return Err(AllocError);
         };
+        let mut marks = Mark::new(alloc)?;
         let mut all = Vec::with_capacity(alloc, passes.len())?;
         while let Some(pass) = passes.pop() {
             let table = Arc::try_clone(&first)?;
-            all.insert(0, Shared { table, pass })?;
+            let next = marks.next()?;
+            let mark = replace(&mut marks, next);
+            all.insert(0, Shared { table, pass, mark })?;
         }
         Ok(all)
     }

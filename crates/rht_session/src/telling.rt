@@ -130,6 +130,7 @@ pub fn told_closing_all(
         }
         Ok(None) => codes::CLOSED,
         Err(NotClosed::NotOpen) => codes::NOT_OPEN,
+        Err(NotClosed::TwoTables) => codes::TWO_TABLES,
         Err(NotClosed::InCall) => codes::IN_CALL,
         Err(NotClosed::Memory) => codes::NO_MEMORY,
     }

@@ -7,4 +7,6 @@
 #[cfg(test)]
 mod asserts;
 #[cfg(test)]
+mod closings;
+#[cfg(test)]
 mod sessions;

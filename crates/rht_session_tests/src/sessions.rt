@@ -7,15 +7,15 @@ ghost use Rattle.rht_session.specs.Handles.{IsFitHandle};
 use crate::asserts::assert_same;
 use rht_model::{Call, Cursor, Reply};
 use rht_session::{
-    CConfig, CCursor, CPair, CPort, CReply, Handle, NotOpened, Refused, codes, told, told_closing,
-    told_found, told_opening, told_whole,
+    CConfig, CCursor, CPair, CPort, CReply, Handle, NO_SPARE, NotOpened, Refused, codes, told,
+    told_closing, told_closing_now, told_found, told_opening, told_whole,
 };
 use rht_words::{Config, Hash, Kind, Port};
 use std::alloc::Global;
 use std::test::Fail;
 
 /// A small table of lists for two callers. Ports are their own hashes.
-const SMALL: Config = Config {
+pub const SMALL: Config = Config {
     kind: Kind::Listed,
     nodes: 8,
     pages: 4,
@@ -47,10 +47,11 @@ const NOTHING: CReply = CReply {
     caller: 0,
     kick: false,
     again: false,
+    spare: NO_SPARE,
 };
 
 /// The two handles of a table.
-fn opened(alloc: Global, config: Config) -> Result<(Handle, Handle), Fail>
+pub fn opened(alloc: Global, config: Config) -> Result<(Handle, Handle), Fail>
     ensures { IfOk result (λ h. IsFitHandle h.0 × IsFitHandle h.1) }
 {
     let mut handles = [Handle::blank(alloc), Handle::blank(alloc)];
@@ -62,7 +63,7 @@ fn opened(alloc: Global, config: Config) -> Result<(Handle, Handle), Fail>
 }
 
 /// Makes a call, its first operation and then the others.
-fn made(handle: &mut Handle, call: Call) -> Result<Reply, Fail>
+pub fn made(handle: &mut Handle, call: Call) -> Result<Reply, Fail>
     requires { IsFitHandle handle.old }
     ensures { IsFitHandle handle.new }
 {
@@ -75,7 +76,7 @@ fn made(handle: &mut Handle, call: Call) -> Result<Reply, Fail>
 }
 
 /// The call that binds a port to an owner.
-fn bind(port: Port, owner: u32) -> Call {
+pub fn bind(port: Port, owner: u32) -> Call {
     Call::Bind {
         port,
         owner,
@@ -258,6 +259,10 @@ fn sizes_of_configs_are_rounded(rt: HostRuntime) -> Result<(), Fail> {
         ..plain
     };
     assert_same(&rt, CConfig::of(other.config()), other);
+    assert_same(&rt, other.has_no_spare(), true);
+    let spare = [0, 0, 0, 0, 0, 0, 0, 1];
+    let filled = CConfig { spare, ..other };
+    assert_same(&rt, filled.has_no_spare(), false);
     Ok(())
 }
 
@@ -328,5 +333,12 @@ fn answers_are_told_by_codes_and_numbers(rt: HostRuntime) -> Result<(), Fail> {
     assert_same(&rt, owner, 6);
     assert_same(&rt, told_opening(Err(NotOpened::Memory)), codes::NO_MEMORY);
     assert_same(&rt, told_closing(Ok(())), codes::CLOSED);
+    let waiting = told_closing(Err(Refused::Waiting));
+    assert_same(&rt, waiting, codes::WAITING);
+    let mut given_up = 4;
+    let refused = told_closing_now(Err(Refused::InCall), &mut given_up);
+    assert_same(&rt, (refused, given_up), (codes::IN_CALL, 4));
+    let closed = told_closing_now(Ok(6), &mut given_up);
+    assert_same(&rt, (closed, given_up), (codes::CLOSED, 6));
     Ok(())
 }

@@ -1,6 +1,6 @@
 use Rattle.std.proofs.Common.{◌≡◌, [], ◌∷◌, true, false, map, sym, ap, ◌∙◌}
 use Rattle.rht_session.specs.declared.session.Session.{Session}
-use Rattle.rht_session.proofs.TakenHandles.{none_have, some_have, have_open, have_fit, open_have, all_blank_fit, all_same_fit}
+use Rattle.rht_session.proofs.TakenHandles.{none_have, some_have, have_open, have_fit, open_have, all_blank_fit, all_same_fit, why_kept}
 use Rattle.rht_session.proofs.handle.Handle.close_all.Goals as goal
 use Rattle.rht_session.proofs.handle.Handle.close_all.Goals.{then-is_empty-via-then-is_empty, then-is_empty-via-else-is_empty+then-not-are_open}
 
@@ -38,6 +38,13 @@ returns-in-Ok-closed-clause-closed c =
 
 pub returns-in-Ok-closed-clause-fit : goal.returns-in-Ok-closed-clause-fit
 returns-in-Ok-closed-clause-fit c = all_blank_fit c.taken_out.new.handles c.taken_out.ensures.blank
+
+pub returns-in-Err-clause-why : goal.returns-in-Err-clause-why
+returns-in-Err-clause-why c =
+    let handles = c.args.handles.now in
+    let all = map (λ b. b.value) c.taken_out.result.items in
+    let have = c.taken_out.ensures.taken in
+    why_kept handles all have (some_have handles all have (sym c.is_empty.ensures ∙ c.if-is_empty.false)) c.in-Err.why c.in-Err.ensures.why
 
 pub returns-in-Err-clause-fit : goal.returns-in-Err-clause-fit
 returns-in-Err-clause-fit c =
