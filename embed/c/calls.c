@@ -1,7 +1,12 @@
 /* Each function on its way, and each reply that one thread can bring about: in single and listed tables, by
  * either hash. A thread with two handles is in a call of one of them while it calls by the other. */
+#include <stddef.h>
+#include <sys/random.h>
+
 static void go_on_awaited(void);
+static int drawn(void *bytes, size_t count);
 #define RHT_YIELD() go_on_awaited()
+#define RHT_ENTROPY(bytes, count) drawn(bytes, count)
 #include "check.h"
 
 #define MANY 200
@@ -20,12 +25,56 @@ static void go_on_awaited(void)
     awaited = NULL;
 }
 
+/* whether the system gives no random bytes, which otherwise are its own */
+static bool is_dry;
+
+static int drawn(void *bytes, size_t count)
+{
+    return is_dry || getrandom(bytes, count, 0) != (ssize_t)count ? -1 : 0;
+}
+
+/* a config in which each field has another number than the plain one */
+static rht_config other_config(void)
+{
+    return (rht_config){.nodes = 1, .pages = 2, .callers = 3, .hint = 4, .min = 5, .max = 6, .seed = 7, .rewalks = 9,
+                        .listed = true, .low = true, .shrink = true, .spare = {1, 2, 3, 4, 5, 6, 7, 8}};
+}
+
+/* A drawn seed is another one each time, and the other fields are plain. A table keeps it, and also one that the
+ * program has set. Where none can be drawn the config stays. */
+static void seeds(struct test *t)
+{
+    const rht_config plain = RHT_CONFIG_INIT;
+    rht_config configs[3] = {other_config(), other_config(), other_config()}, drawn_one;
+    rht_handle handles[3] = {RHT_HANDLE_INIT, RHT_HANDLE_INIT, RHT_HANDLE_INIT};
+    unsigned i;
+    is_dry = true;
+    drawn_one = configs[0];
+    ANSWERS(t, rht_config_init(&configs[0]), RHT_NO_SEED);
+    CHECK(t, are_same_configs(&configs[0], &drawn_one));
+    is_dry = false;
+    for (i = 0; i < 3; i++) {
+        ANSWERS(t, rht_config_init(&configs[i]), RHT_READY);
+        drawn_one = configs[i];
+        drawn_one.seed = plain.seed;
+        CHECK(t, are_same_configs(&drawn_one, &plain));
+        if (i == 2)
+            configs[i].seed = 77;
+        drawn_one = configs[i];
+        ANSWERS(t, rht_open(&configs[i], &handles[i], 1), RHT_OPENED);
+        CHECK(t, are_same_configs(&configs[i], &drawn_one));
+    }
+    CHECK(t, configs[0].seed != configs[1].seed && configs[2].seed == 77);
+    for (i = 0; i < 3; i++)
+        ANSWERS(t, rht_close(&handles[i]), RHT_CLOSED);
+}
+
 static void plain(struct test *t)
 {
     const rht_config wanted = RHT_CONFIG_INIT;
-    t->config = (rht_config){.nodes = 1, .pages = 2, .callers = 3, .hint = 4, .min = 5, .max = 6, .seed = 7,
-                             .rewalks = 9, .listed = true, .low = true, .shrink = true};
-    rht_config_init(&t->config);
+    t->config = other_config();
+    rht_config_plain(&t->config);
+    CHECK(t, wanted.seed == 1);
     CHECK(t, wanted.nodes == 4096 && wanted.pages == 256 && wanted.callers == 1);
     CHECK(t, are_same_configs(&t->config, &wanted));
     open_table(t, 1);
@@ -737,10 +786,12 @@ static void tidies_twice(struct test *t)
     close_table(t);
 }
 
-/* What one handle binds the others find. A handle that closes keeps the nodes that it hasn't tidied. */
+/* What one handle binds the others find. A handle isn't closed with a node that it hasn't tidied, unless that is given
+ * up. */
 static void shares(struct test *t)
 {
     rht_handle *first = &t->handles[0], *h = &t->handles[1];
+    uint32_t given_up = 99;
     t->config.nodes = 1;
     open_table(t, 2);
     ANSWERS(t, rht_bind(first, port(80), 1, &t->reply), RHT_BOUND);
@@ -752,11 +803,58 @@ static void shares(struct test *t)
     REPLIES(t, rht_tidy(h, &t->reply), RHT_CLEAR, {.returned = 1});
     ANSWERS(t, rht_bind(first, port(81), 1, &t->reply), RHT_BOUND);
     ANSWERS(t, rht_release(first, port(81), 1, &t->reply), RHT_RELEASED);
-    ANSWERS(t, rht_close(first), RHT_CLOSED);
+    ANSWERS(t, rht_close(first), RHT_WAITING);
+    REPLIES(t, rht_tidy(first, &t->reply), RHT_CLEAR, {.returned = 1});
+    ANSWERS(t, rht_bind(first, port(81), 1, &t->reply), RHT_BOUND);
+    ANSWERS(t, rht_rebind(first, port(81), 1, 2, &t->reply), RHT_NO_NODE);
+    ANSWERS(t, rht_release(first, port(81), 1, &t->reply), RHT_RELEASED);
+    ANSWERS(t, rht_close_now(first, &given_up), RHT_CLOSED);
+    CHECK(t, given_up == 1 && !first->in_use);
     REPLIES(t, rht_bind(h, port(82), 1, &t->reply), RHT_NO_NODE, NOTHING);
     REPLIES(t, rht_tidy(h, &t->reply), RHT_CLEAR, {.returned = 0});
     REPLIES(t, rht_bind(h, port(82), 1, &t->reply), RHT_NO_NODE, NOTHING);
     close_table(t);
+}
+
+/* Nodes that are fresh and such as wait, alone and together: a closing is refused and does nothing, until they are
+ * tidied. Beside a call of another handle they aren't. A rebind takes out a node as a release does. */
+static void closes_no_nodes(struct test *t)
+{
+    rht_handle *in = &t->handles[0], *h = &t->handles[1];
+    uint32_t fresh, waiting, given_up, i;
+    for (waiting = 0; waiting <= 2; waiting++)
+        for (fresh = 0; fresh <= 2; fresh++) {
+            open_table(t, 2);
+            bind_ports(t, 1, 4);
+            ANSWERS(t, rht_all_begin(in, port(80), &t->reply), RHT_NOT_YET);
+            for (i = 1; i <= waiting; i++)
+                ANSWERS(t, rht_rebind(h, port(i), i + 1000, 7, &t->reply), RHT_REBOUND);
+            ANSWERS(t, rht_tidy(h, &t->reply), RHT_PENDING);
+            for (i = 3; i < 3 + fresh; i++)
+                ANSWERS(t, rht_release(h, port(i), i + 1000, &t->reply), RHT_RELEASED);
+            given_up = 99;
+            if (waiting + fresh > 0) {
+                const rht_handle before = *h;
+                ANSWERS(t, rht_close(h), RHT_WAITING);
+                CHECK(t, h->in_use && h->at == before.at);
+                ANSWERS(t, rht_find(h, port(4), &t->owner), fresh < 2 ? RHT_FOUND : RHT_MISSING);
+            }
+            ANSWERS(t, rht_close(in), RHT_IN_CALL);
+            ANSWERS(t, rht_close_now(in, &given_up), RHT_IN_CALL);
+            CHECK(t, given_up == 99);
+            if ((waiting + fresh) % 2 == 0) {
+                ANSWERS(t, rht_close_now(h, &given_up), RHT_CLOSED);
+                CHECK(t, given_up == waiting + fresh && !h->in_use);
+                given_up = 99;
+                ANSWERS(t, rht_close_now(h, &given_up), RHT_NOT_OPEN);
+                CHECK(t, given_up == 99);
+            }
+            ANSWERS(t, rht_finish(in, RHT_NOT_YET, &t->reply), RHT_LISTED);
+            while (h->in_use && rht_close(h) == RHT_WAITING)
+                ANSWERS(t, rht_tidy(h, &t->reply), RHT_CLEAR);
+            CHECK(t, !h->in_use);
+            ANSWERS(t, rht_close(in), RHT_CLOSED);
+        }
 }
 
 /* Handles are opened again behind their closing, also where all their bytes are 0. */
@@ -862,7 +960,9 @@ static void unwrite(rht_pair *pairs, size_t len, rht_closed *closed)
     size_t i;
     for (i = 0; i < len; i++)
         pairs[i] = (rht_pair){.port = {UNWRITTEN, UNWRITTEN}, .owner = UNWRITTEN};
-    *closed = (rht_closed){UNWRITTEN, UNWRITTEN, UNWRITTEN};
+    *closed = (rht_closed){.len = UNWRITTEN, .keys = UNWRITTEN, .size = UNWRITTEN,
+                           .spare = {UNWRITTEN, UNWRITTEN, UNWRITTEN, UNWRITTEN, UNWRITTEN, UNWRITTEN, UNWRITTEN,
+                                     UNWRITTEN}};
 }
 
 static bool is_pair(const rht_pair *a, const rht_pair *b)
@@ -892,6 +992,8 @@ static void has_ended(struct test *t, rht_handle *handles, size_t count, size_t 
     unwrite(pairs, BOUND + 4, &closed);
     ANSWERS(t, rht_close_all(handles, count, pairs, room, &closed), RHT_ENDED);
     CHECK(t, closed.len == written && closed.keys == 5 && closed.size == 64);
+    for (i = 0; i < 8; i++)
+        CHECK(t, closed.spare[i] == 0);
     for (i = 0; i < written; i++)
         CHECK(t, is_pair(&pairs[i], &left[i]));
     CHECK(t, are_unwritten(pairs + written, BOUND + 4 - written));
@@ -985,7 +1087,8 @@ static void closes_each(struct test *t)
     ANSWERS(t, rht_bind(other, port(80), 1, &t->reply), RHT_BOUND);
     open_table(t, 3);
     bind_several(t, &t->handles[0], &t->handles[1], &t->handles[2]);
-    ANSWERS(t, rht_close(&t->handles[0]), RHT_CLOSED);
+    ANSWERS(t, rht_close_now(&t->handles[0], &t->owner), RHT_CLOSED);
+    CHECK(t, t->owner == 1);
     has_ended(t, &t->handles[1], 2, BOUND);
     ANSWERS(t, rht_find(other, port(80), &t->owner), RHT_FOUND);
     ANSWERS(t, rht_close(other), RHT_CLOSED);
@@ -1013,7 +1116,8 @@ static void ends_behind_others(struct test *t)
 }
 
 static const struct named tests[] = {
-    {"plain", plain}, {"finds", finds}, {"ends_of_ranges", ends_of_ranges}, {"second_owner", second_owner},
+    {"plain", plain}, {"seeds", seeds}, {"finds", finds}, {"ends_of_ranges", ends_of_ranges},
+    {"second_owner", second_owner},
     {"listed", listed}, {"lists_go", lists_go}, {"releases", releases}, {"rebinds", rebinds},
     {"tidies", tidies}, {"walks", walks}, {"walks_lists", walks_lists}, {"walks_buckets", walks_buckets},
     {"grows", grows}, {"grows_twice", grows_twice}, {"shrinks", shrinks}, {"fills", fills},
@@ -1023,7 +1127,8 @@ static const struct named tests[] = {
     {"leaves_off_so_far", leaves_off_so_far}, {"leaves_off_before_a_lock", leaves_off_before_a_lock},
     {"leaves_off_at_a_lock", leaves_off_at_a_lock}, {"waits_for_a_lock", waits_for_a_lock},
     {"wants_a_table_in_one", wants_a_table_in_one}, {"is_pending", is_pending}, {"tidies_twice", tidies_twice},
-    {"is_elsewhere", is_elsewhere}, {"shares", shares}, {"opens_again", opens_again}, {"moves", moves},
+    {"is_elsewhere", is_elsewhere}, {"shares", shares}, {"closes_no_nodes", closes_no_nodes},
+    {"opens_again", opens_again}, {"moves", moves},
     {"has_sixteen", has_sixteen}, {"ends", ends}, {"ends_empty", ends_empty},
     {"ends_in_any_order", ends_in_any_order}, {"closes_some", closes_some}, {"closes_each", closes_each},
     {"ends_behind_others", ends_behind_others},

@@ -64,6 +64,8 @@ static inline void answers(struct test *t, uint32_t found, uint32_t code, const 
 
 static inline bool are_equal(rht_reply a, rht_reply b)
 {
+    if (memcmp(a.spare, b.spare, sizeof a.spare) != 0)
+        return false;
     return a.count == b.count && a.section == b.section && a.next.serial == b.next.serial
         && a.next.bucket == b.next.bucket && a.next.more == b.next.more && a.owner == b.owner && a.len == b.len
         && a.table == b.table && a.last == b.last && a.size == b.size && a.returned == b.returned
@@ -85,7 +87,7 @@ static inline rht_reply spoiled(void)
 {
     rht_reply it = {.count = 901, .section = 902, .next = {.serial = 903, .bucket = 904, .more = true}, .owner = 905,
                     .len = 906, .table = 907, .last = 908, .size = 909, .returned = 910, .caller = 911,
-                    .kick = true, .again = true};
+                    .kick = true, .again = true, .spare = {913, 914, 915, 916, 917, 918, 919, 920}};
     return it;
 }
 
@@ -115,7 +117,7 @@ static inline rht_port port(uint32_t number) { return in_net(0, number); }
 /* The plain config, but of the test's kind of table and its hash. */
 static inline void set_plain(struct test *t)
 {
-    rht_config_init(&t->config);
+    rht_config_plain(&t->config);
     t->config.listed = t->listed;
     t->config.low = t->low;
 }
@@ -124,7 +126,8 @@ static inline bool are_same_configs(const rht_config *a, const rht_config *b)
 {
     return a->nodes == b->nodes && a->pages == b->pages && a->callers == b->callers && a->hint == b->hint
         && a->min == b->min && a->max == b->max && a->seed == b->seed && a->rewalks == b->rewalks
-        && a->listed == b->listed && a->low == b->low && a->shrink == b->shrink;
+        && a->listed == b->listed && a->low == b->low && a->shrink == b->shrink
+        && memcmp(a->spare, b->spare, sizeof a->spare) == 0;
 }
 
 /* Opens the test's table, with so many handles. */
@@ -134,13 +137,14 @@ static inline void open_table(struct test *t, uint32_t callers)
     ANSWERS(t, rht_open(&t->config, t->handles, callers), RHT_OPENED);
 }
 
-/* Closes the handles that are open. */
+/* Closes the handles that are open, also with nodes that aren't tidied. */
 static inline void close_table(struct test *t)
 {
+    uint32_t given_up = 0;
     size_t i;
     for (i = 0; i < sizeof t->handles / sizeof *t->handles; i++)
         if (t->handles[i].in_use)
-            ANSWERS(t, rht_close(&t->handles[i]), RHT_CLOSED);
+            ANSWERS(t, rht_close_now(&t->handles[i], &given_up), RHT_CLOSED);
 }
 
 /* Binds the ports from first to last, each to the owner 1000 more. Each is bound. */

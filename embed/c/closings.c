@@ -57,14 +57,14 @@ static unsigned long table, closings;
 static rht_handle handles[MOST];
 
 /* How a thread closes its handle of a table. */
-enum way { ALL, ONE };
+enum way { ALL, ONE, NOW };
 
 /* A thread, and what its last closing has left. A seat has cache lines of its own. */
 struct seat {
     enum way (*way)(unsigned long table, unsigned number);
     unsigned number;
     unsigned long tables;
-    uint32_t code;
+    uint32_t code, given_up;
     rht_pair pairs[BOUND];
     rht_closed closed;
     char apart[128];
@@ -78,15 +78,25 @@ static enum way all_alike(unsigned long number, unsigned thread)
     return ALL;
 }
 
-/* Each mixture of both ways, in turn. */
-static enum way mixed(unsigned long number, unsigned thread) { return number >> thread & 1 ? ONE : ALL; }
+/* Each mixture of the three ways, in turn. */
+static enum way mixed(unsigned long number, unsigned thread)
+{
+    for (; thread > 0; thread--)
+        number /= 3;
+    return (enum way)(number % 3);
+}
 
 static void close_one(struct seat *s, unsigned long number)
 {
     rht_handle *h = &handles[s->number];
     memset(s->pairs, 0, sizeof s->pairs);
     memset(&s->closed, 0, sizeof s->closed);
-    s->code = s->way(number, s->number) == ALL ? rht_close_all(h, 1, s->pairs, BOUND, &s->closed) : rht_close(h);
+    s->given_up = 0;
+    switch (s->way(number, s->number)) {
+    case ALL: s->code = rht_close_all(h, 1, s->pairs, BOUND, &s->closed); break;
+    case ONE: s->code = rht_close(h); break;
+    case NOW: s->code = rht_close_now(h, &s->given_up); break;
+    }
 }
 
 /* Spins until the word has this number. Where there are fewer processors than threads it yields now and then. */
@@ -115,7 +125,7 @@ static bool is_told(const struct seat *s)
 {
     unsigned i;
     if (s->code != RHT_ENDED)
-        return s->code == RHT_CLOSED && s->closed.keys == 0 && s->pairs[0].owner == 0;
+        return s->code == RHT_CLOSED && s->closed.keys == 0 && s->pairs[0].owner == 0 && s->given_up == 0;
     for (i = 0; i < BOUND; i++)
         if (s->pairs[i].port.number != i || s->pairs[i].owner != 10 + i)
             return false;
@@ -187,7 +197,7 @@ int main(int words, char **word)
     ended_alike = race(&t, all_alike, (unsigned)threads, (unsigned long)tables);
     CHECK(&t, ended_alike == (unsigned long)tables);
     ended_mixed = race(&t, mixed, (unsigned)threads, (unsigned long)tables);
-    CHECK(&t, tables < 16 || (ended_mixed > 0 && ended_mixed < (unsigned long)tables));
+    CHECK(&t, tables < 81 || (ended_mixed > 0 && ended_mixed < (unsigned long)tables));
     printf("closings: %d threads, %d tables: %lu ended where all are closed together, %lu in mixtures\n", threads,
            tables, ended_alike, ended_mixed);
     return ended("closings", t.made, t.failed);

@@ -3,6 +3,7 @@
  * and what is wrong then; `embed/check test` reads these lines. */
 #define _POSIX_C_SOURCE 200809L
 #include <stdlib.h>
+#include <string.h>
 #include <time.h>
 
 #include "rht.h"
@@ -147,10 +148,10 @@ WRAPPED(size_t, rht_owners, (rht_handle * handle, size_t skip, uint32_t *into, s
     }
     return len;
 }
-#elif LIE == 20 /* rht_config_init calls: a plain config has another number of nodes */
-WRAPPED(void, rht_config_init, (rht_config * config))
+#elif LIE == 20 /* rht_config_plain calls: a plain config has another number of nodes */
+WRAPPED(void, rht_config_plain, (rht_config * config))
 {
-    __real_rht_config_init(config);
+    __real_rht_config_plain(config);
     config->nodes--;
 }
 #elif LIE == 21 /* rht_open wrong: a config is rounded also where it opens no table */
@@ -316,6 +317,60 @@ WRAPPED(uint32_t, rht_release_in,
 {
     const uint32_t code = __real_rht_release_in(handle, port, owner, rounds, reply);
     return code == RHT_ABSENT ? RHT_RELEASED : code;
+}
+#elif LIE == 41 /* rht_close calls: a handle is closed with nodes that aren't tidied */
+WRAPPED(uint32_t, rht_close, (rht_handle * handle))
+{
+    const uint32_t code = __real_rht_close(handle);
+    uint32_t given_up = 0;
+    return code == RHT_WAITING ? rht_close_now(handle, &given_up) : code;
+}
+#elif LIE == 42 /* rht_close_now calls: no node is given up */
+WRAPPED(uint32_t, rht_close_now, (rht_handle * handle, uint32_t *given_up))
+{
+    const uint32_t code = __real_rht_close_now(handle, given_up);
+    *given_up = code == RHT_CLOSED ? 0 : *given_up;
+    return code;
+}
+#elif LIE == 43 /* rht_open wrong: spare words aren't looked at */
+WRAPPED(uint32_t, rht_open, (rht_config * config, rht_handle *handles, size_t count))
+{
+    const rht_config before = *config;
+    uint32_t code;
+    memset(config->spare, 0, sizeof config->spare);
+    code = __real_rht_open(config, handles, count);
+    memcpy(config->spare, before.spare, sizeof config->spare);
+    return code;
+}
+#elif LIE == 44 /* rht_close_all closings: now and then nobody ends a table */
+WRAPPED(uint32_t, rht_close_all,
+        (rht_handle * handles, size_t count, rht_pair *into, size_t room, rht_closed *closed))
+{
+    const uint32_t code = __real_rht_close_all(handles, count, into, room, closed);
+    if (code != RHT_ENDED || rand() % 64 != 0)
+        return code;
+    memset(closed, 0, sizeof *closed);
+    memset(into, 0, room * sizeof *into);
+    return RHT_CLOSED;
+}
+#elif LIE == 45 /* rht_close closings: a block of a closed handle stays taken now and then */
+WRAPPED(uint32_t, rht_close, (rht_handle * handle))
+{
+    static void *block;
+    if (rand() % 64 == 0)
+        block = malloc(8);
+    return __real_rht_close(handle) + 0 * (block != NULL);
+}
+#elif LIE == 46 /* rht_close_all wrong: handles of two tables are closed */
+WRAPPED(uint32_t, rht_close_all,
+        (rht_handle * handles, size_t count, rht_pair *into, size_t room, rht_closed *closed))
+{
+    const uint32_t code = __real_rht_close_all(handles, count, into, room, closed);
+    uint32_t given_up = 0;
+    size_t i;
+    for (i = 0; code == RHT_TWO_TABLES && i < count; i++)
+        rht_close_now(&handles[i], &given_up);
+    return code == RHT_TWO_TABLES ? RHT_ENDED : code;
 }
 #else
 #error "there is no such lie"

@@ -116,7 +116,7 @@ static void takes_none(struct test *t)
 static uint32_t closed_at_last(struct test *t, rht_handle *handles, size_t count, rht_pair *into, size_t room,
                                rht_closed *closed)
 {
-    const rht_closed before_it = {71, 72, 73};
+    const rht_closed before_it = {.len = 71, .keys = 72, .size = 73};
     const unsigned long before = held;
     const rht_pair first = into[0];
     uint32_t code = RHT_NO_MEMORY;

@@ -9,7 +9,6 @@
 #include <sched.h>
 #include <stdlib.h>
 
-#define RHT_YIELD() sched_yield()
 #include "check.h"
 
 #define MOST 4

@@ -2,18 +2,18 @@
  * program owes, as rht.h lists it, isn't tried here: nothing checks it. */
 #include "check.h"
 
-#define CALLS 15
+#define CALLS 16
 #define BEGINS 9
 
 /* Closes handles together, which is to be refused: nothing is written then. */
 static uint32_t close_all(struct test *t, rht_handle *handles, size_t count)
 {
     rht_pair pairs[2] = {{.port = {.number = 61, .net = 62}, .owner = 63}, {.port = {.number = 64}, .owner = 65}};
-    rht_closed closed = {66, 67, 68};
+    rht_closed closed = {.len = 66, .keys = 67, .size = 68, .spare = {69, 70, 71, 72, 73, 74, 75, 76}};
     const uint32_t code = rht_close_all(handles, count, pairs, 2, &closed);
     CHECK(t, pairs[0].port.number == 61 && pairs[0].port.net == 62 && pairs[0].owner == 63);
     CHECK(t, pairs[1].port.number == 64 && pairs[1].port.net == 0 && pairs[1].owner == 65);
-    CHECK(t, closed.len == 66 && closed.keys == 67 && closed.size == 68);
+    CHECK(t, closed.len == 66 && closed.keys == 67 && closed.size == 68 && closed.spare[0] == 69);
     return code;
 }
 
@@ -37,6 +37,7 @@ static uint32_t make(struct test *t, rht_handle *h, unsigned which)
     case 11: return rht_tidy(h, &t->reply);
     case 12: return rht_count(h, &t->reply);
     case 13: return close_all(t, h, 1);
+    case 14: return rht_close_now(h, &t->owner);
     default: return rht_close(h);
     }
 }
@@ -244,6 +245,65 @@ static void closes_all_twice(struct test *t)
     ANSWERS(t, rht_close(&t->handles[2]), RHT_NOT_OPEN);
 }
 
+/* Two tables of two handles each, which are mixed in any order, also where a caller's number comes twice. All stay open
+ * with what came with their last call. Then each table is closed by itself with what it has. */
+static void closes_two_tables(struct test *t)
+{
+    static const unsigned mixtures[][4] = {{0, 1, 2, 3}, {0, 2, 1, 3}, {3, 2, 1, 0}, {0, 1, 3, 2}, {2, 0, 1, 3}};
+    rht_handle all[4], mixed[4], before[4];
+    rht_pair pair = {.owner = 0};
+    rht_closed closed = {0};
+    unsigned which, i, count;
+    memset(all, 0, sizeof all);
+    t->config.callers = 2;
+    for (i = 0; i < 2; i++) {
+        t->config.low = (i == 1) != t->low; /* by another hash */
+        ANSWERS(t, rht_open(&t->config, &all[2 * i], 2), RHT_OPENED);
+        ANSWERS(t, rht_bind(&all[2 * i], port(80), i, &t->reply), RHT_BOUND);
+    }
+    for (which = 0; which < sizeof mixtures / sizeof *mixtures; which++) {
+        for (i = 0; i < 4; i++) {
+            mixed[i] = all[mixtures[which][i]];
+            ANSWERS(t, rht_all(&mixed[i], port(80), &t->reply), RHT_LISTED);
+        }
+        memcpy(before, mixed, sizeof before);
+        for (count = 2; count <= 4; count++) {
+            if (count == 2 && mixtures[which][0] / 2 == mixtures[which][1] / 2)
+                continue;
+            REFUSED(t, close_all(t, mixed, count), RHT_TWO_TABLES);
+            CHECK(t, are_same(mixed, before, 4, 4));
+        }
+        for (i = 0; i < 4; i++) {
+            CHECK(t, rht_owners(&mixed[i], 0, &t->owner, 1) == 1 && t->owner == mixtures[which][i] / 2);
+            all[mixtures[which][i]] = mixed[i];
+        }
+    }
+    for (i = 0; i < 2; i++) {
+        ANSWERS(t, rht_close_all(&all[2 * i], 2, &pair, 1, &closed), RHT_ENDED);
+        CHECK(t, closed.len == 1 && pair.port.number == 80 && pair.owner == i);
+    }
+}
+
+/* Each of the spare words has to be 0, before anything else is looked at. */
+static void has_spare_words(struct test *t)
+{
+    rht_config before;
+    unsigned i;
+    t->config.callers = 1;
+    for (i = 0; i < 8; i++) {
+        t->config.spare[i] = UINT32_MAX - i;
+        before = t->config;
+        ANSWERS(t, rht_open(&t->config, t->handles, 1), RHT_BAD_CONFIG);
+        ANSWERS(t, rht_open(&t->config, t->handles, 2), RHT_BAD_CONFIG);
+        CHECK(t, are_same_configs(&t->config, &before) && !t->handles->in_use);
+        t->config.spare[i] = 0;
+    }
+    open_table(t, 1);
+    t->config.spare[7] = 1;
+    ANSWERS(t, rht_open(&t->config, t->handles, 1), RHT_BAD_CONFIG);
+    close_table(t);
+}
+
 /* Of several handles any one is open, also one of another table. */
 static void is_still_open(struct test *t)
 {
@@ -410,6 +470,7 @@ static const struct named tests[] = {
     {"is_not_open", is_not_open}, {"is_in_call", is_in_call}, {"is_in_no_call", is_in_no_call},
     {"closes_twice", closes_twice}, {"closes_none", closes_none}, {"closes_beside_a_blank", closes_beside_a_blank},
     {"closes_in_a_call", closes_in_a_call}, {"closes_all_twice", closes_all_twice},
+    {"closes_two_tables", closes_two_tables}, {"has_spare_words", has_spare_words},
     {"is_still_open", is_still_open}, {"has_wrong_counts", has_wrong_counts},
     {"has_several_causes", has_several_causes}, {"has_bad_configs", has_bad_configs},
     {"rounds_sizes", rounds_sizes}, {"fits_pages", fits_pages},

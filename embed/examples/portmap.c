@@ -21,7 +21,6 @@
 #include <sys/socket.h>
 #include <sys/un.h>
 #include <unistd.h>
-#define RHT_YIELD() sched_yield()
 #include <rht.h>
 
 enum { THREADS = 4, LINE = 128, NODES = 4096, TRIES = 100 };
@@ -166,11 +165,15 @@ static void *run(void *handle)
 int main(int words, char **word)
 {
     static rht_handle handles[THREADS];
-    rht_config config = RHT_CONFIG_INIT;
+    rht_config config;
     struct sockaddr_un at = {.sun_family = AF_UNIX};
     pthread_t threads[THREADS];
     int i, started = 0, sent;
     sigset_t ends;
+    if (rht_config_init(&config) != RHT_READY) { /* whoever chooses ports mustn't know the seed */
+        fputs("portmap: the system gives no random bytes\n", stderr);
+        return 1;
+    }
     config.nodes = NODES;
     config.callers = THREADS;
     config.shrink = true;

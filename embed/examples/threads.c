@@ -1,7 +1,6 @@
 /* Four threads share a table and want the same 3,000 ports. Status 0 says that each is bound just once. */
 #include <pthread.h>
 #include <stdio.h>
-#define RHT_YIELD() sched_yield()
 #include <rht.h>
 static rht_handle handles[4]; /* all bytes are 0, so they are blank */
 static unsigned bound[4];     /* the ports that each thread has bound, and then found as its own */
@@ -20,7 +19,8 @@ static void *run(void *handle)
 int main(void)
 {
     pthread_t threads[4];
-    rht_config config = RHT_CONFIG_INIT;
+    rht_config config;
+    if (rht_config_init(&config) != RHT_READY) return 1;
     config.callers = 4;
     if (rht_open(&config, handles, 4) != RHT_OPENED) return 1;
     for (int i = 0; i < 4; i++) if (pthread_create(&threads[i], NULL, run, &handles[i]) != 0) return 1;
