@@ -1,0 +1,2 @@
+-- a handle alone is of one table
+pub mod OneHandle
