@@ -51,7 +51,7 @@ import operator
 import os
 import threading
 import time
-from dataclasses import dataclass
+from dataclasses import dataclass, fields
 from typing import List, NamedTuple, Optional, Tuple
 
 __all__ = [
@@ -252,6 +252,10 @@ class NoMemory(RhtError):
     """Memory has run out. No table was opened, or no seat was closed."""
 
 
+class TwoTables(RhtError):
+    """The seats to be closed together are of several tables. None was closed."""
+
+
 class SeatClosed(RhtError):
     """The seat was closed."""
 
@@ -306,13 +310,18 @@ _CLOSED = 33
 _ENDED = 34
 _NOT_OPEN = 64
 _IN_CALL = 65
+_WAITING = 71
 _BAD_CONFIG = 80
 _NO_MEMORY = 83
+_TWO_TABLES = 84
 
 _U16 = ctypes.c_uint16
 _U32 = ctypes.c_uint32
 _U64 = ctypes.c_uint64
 _BOOL = ctypes.c_bool
+
+# Room for fields of later versions, all 0.
+_SPARE = _U32 * 8
 
 
 class _Port(ctypes.Structure):
@@ -330,7 +339,7 @@ class _Cursor(ctypes.Structure):
 class _Config(ctypes.Structure):
     _fields_ = [
         ("nodes", _U32), ("pages", _U32), ("callers", _U32), ("hint", _U32), ("min", _U32), ("max", _U32),
-        ("seed", _U32), ("rewalks", _U32), ("listed", _BOOL), ("low", _BOOL), ("shrink", _BOOL),
+        ("seed", _U32), ("rewalks", _U32), ("listed", _BOOL), ("low", _BOOL), ("shrink", _BOOL), ("spare", _SPARE),
     ]
 
 
@@ -338,11 +347,12 @@ class _Reply(ctypes.Structure):
     _fields_ = [
         ("count", _U64), ("section", _U64), ("next", _Cursor), ("owner", _U32), ("len", _U32), ("table", _U32),
         ("last", _U32), ("size", _U32), ("returned", _U32), ("caller", _U32), ("kick", _BOOL), ("again", _BOOL),
+        ("spare", _SPARE),
     ]
 
 
 class _Closed(ctypes.Structure):
-    _fields_ = [("len", _U64), ("keys", _U32), ("size", _U32)]
+    _fields_ = [("len", _U64), ("keys", _U32), ("size", _U32), ("spare", _SPARE)]
 
 
 class _Handle(ctypes.Structure):
@@ -351,16 +361,17 @@ class _Handle(ctypes.Structure):
 
 # The sizes that the header gives, and the offset of each struct's last field.
 _SIZES = [
-    (_Port, 8, 4), (_Pair, 12, 8), (_Cursor, 16, 12), (_Config, 36, 34), (_Reply, 64, 61), (_Closed, 16, 12),
+    (_Port, 8, 4), (_Pair, 12, 8), (_Cursor, 16, 12), (_Config, 68, 36), (_Reply, 96, 64), (_Closed, 48, 16),
     (_Handle, 16, 8),
 ]
 
 _AT = ctypes.POINTER(_Handle)
 _SAYS = ctypes.POINTER(_Reply)
 _FUNCTIONS = {
-    "rht_config_init": (None, [ctypes.POINTER(_Config)]),
+    "rht_config_plain": (None, [ctypes.POINTER(_Config)]),
     "rht_open": (_U32, [ctypes.POINTER(_Config), _AT, ctypes.c_size_t]),
     "rht_close": (_U32, [_AT]),
+    "rht_close_now": (_U32, [_AT, ctypes.POINTER(_U32)]),
     "rht_close_all": (
         _U32, [_AT, ctypes.c_size_t, ctypes.POINTER(_Pair), ctypes.c_size_t, ctypes.POINTER(_Closed)],
     ),
@@ -698,7 +709,7 @@ class Seat:
 def _config(numbers, listed, low, shrink):
     """The struct of a table's config. A number that is None stays that of a plain table."""
     config = _Config()
-    _lib.rht_config_init(ctypes.byref(config))
+    _lib.rht_config_plain(ctypes.byref(config))
     config.listed, config.low, config.shrink = bool(listed), bool(low), bool(shrink)
     for name, value in numbers.items():
         if value is None:
@@ -793,7 +804,7 @@ class Table:
         if code != _OPENED:
             raise Misfit(code)
         self._seats = tuple(Seat(caller, handle) for caller, handle in enumerate(handles))
-        self.config = Config(**{name: getattr(config, name) for name, _ in _Config._fields_})
+        self.config = Config(**{field.name: getattr(config, field.name) for field in fields(Config)})
 
     @property
     def seats(self) -> Tuple[Seat, ...]:
@@ -833,6 +844,8 @@ class Table:
         code = _close_together(seats, into, closed)
         if code == _NO_MEMORY:
             raise NoMemory("memory has run out")
+        if code == _TWO_TABLES:
+            raise TwoTables("the seats are of several tables")
         if code != _ENDED:
             raise Misfit(code)
         return Ended(_listed(into[: closed.len]), closed.size)

@@ -423,6 +423,18 @@ class Ends(unittest.TestCase):
                     self.assert_open(*table.seats)
             self.assertEqual(table.end().bindings, [(Port(80), [100])])
 
+    def test_seats_of_two_tables_are_refused(self):
+        with rht.Table(callers=2) as one, rht.Table() as two:
+            seats = one.seats + two.seats
+            seats[0].bind(80, 100)
+            seats[2].bind(80, 100)
+            for order in (seats, seats[::-1], seats[::2] + seats[1:2]):
+                with mock.patch.object(one, "_seats", order):
+                    self.assertRaises(rht.TwoTables, one.end)
+                self.assert_open(*seats)
+            self.assertEqual(one.end().bindings, [(Port(80), [100])])
+            self.assertEqual(two.end().bindings, [(Port(80), [100])])
+
     def test_a_table_has_no_other_seats(self):
         one, two = rht.Table(), rht.Table()
         with self.assertRaises(AttributeError):
@@ -721,10 +733,13 @@ class Header(unittest.TestCase):
 
     def test_codes(self):
         codes = dict(re.findall(r"^ *RHT_(\w+) = (\d+)", self.text(), re.M))
-        self.assertEqual(len(codes), 32)
+        self.assertEqual(len(codes), 39)
+        elsewhere = (
+            "NO_CALL", "NO_STEPS", "BAD_COUNT", "STILL_OPEN", "READY", "NO_SEED", "HELD", "NOT_HELD", "TIDY_FIRST",
+        )
         for name, code in codes.items():
             here = getattr(rht, "_" + name, None)
-            if name in ("NO_CALL", "NO_STEPS", "BAD_COUNT", "STILL_OPEN"):
+            if name in elsewhere:
                 self.assertIsNone(here, "%s can't come here" % name)
             else:
                 self.assertEqual(here, int(code), name)
@@ -747,8 +762,21 @@ class Header(unittest.TestCase):
             name: (self.in_c(result), [self.in_c(kind) for kind in arguments])
             for name, (result, arguments) in rht._FUNCTIONS.items()
         }
-        self.assertEqual(len(there), 20)
+        self.assertEqual(len(there), 21)
         self.assertEqual(there, here)
+
+    def test_spare_words(self):
+        ones, handle = rht._SPARE(*[1] * 8), (rht._Handle * 1)()
+        config = rht._config({"seed": 1}, False, False, False)
+        for word in range(8):
+            config.spare[word] = 1
+            self.assertEqual(rht._lib.rht_open(config, handle, 1), rht._BAD_CONFIG)
+            config.spare[word] = 0
+        self.assertEqual(rht._lib.rht_open(config, handle, 1), rht._OPENED)
+        reply, closed = rht._Reply(spare=ones), rht._Closed(spare=ones)
+        self.assertEqual(rht._lib.rht_count(handle, reply), rht._COUNTED)
+        self.assertEqual(rht._lib.rht_close_all(handle, 1, rht._Pair(), 1, closed), rht._ENDED)
+        self.assertEqual(list(reply.spare) + list(closed.spare), [0] * 16)
 
     @unittest.skipUnless(shutil.which("cc"), "no C compiler here")
     def test_layout(self):

@@ -157,6 +157,7 @@ fn close(seats: &mut [Seat]) -> Result<Option<Closed>, WhyNotClosed> {
         }
         code::CLOSED => Ok(None),
         code::NO_MEMORY => Err(WhyNotClosed::NoMemory),
+        code::TWO_TABLES => Err(WhyNotClosed::SeveralTables),
         code => misfit(code),
     }
 }

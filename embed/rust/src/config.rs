@@ -62,7 +62,7 @@ impl Config {
     #[must_use]
     pub fn plain() -> Config {
         let mut config = ffi::Config::EMPTY;
-        ffi::rht_config_init(&mut config);
+        ffi::rht_config_plain(&mut config);
         Config::from_c(&config)
     }
 
@@ -95,6 +95,7 @@ impl Config {
             listed: self.kind == Kind::Listed,
             low: self.hash == Hash::Low,
             shrink: self.shrink,
+            spare: ffi::NO_SPARE,
         }
     }
 }

@@ -6,8 +6,8 @@
 //!
 //! Most functions are declared `safe`, since their types keep what the header asks of a program:
 //!
-//! - A `Handle` is blank at first, and only `rht_open`, `rht_close` and `rht_close_all` change it. It has no `Clone` and
-//!   no public field. So it is never copied, and a move leaves no second one.
+//! - A `Handle` is blank at first, and only `rht_open` and the functions that close change it. It has no `Clone` and no
+//!   public field. So it is never copied, and a move leaves no second one.
 //! - A `&mut Handle` is the one way to it while a call lasts. So the handle is in one call at a time.
 //! - A `&mut` points to one value, is initialised, aligned and not null, and overlaps with no other argument. No other
 //!   thread touches it meanwhile, and a `bool` is 0 or 1.
@@ -55,8 +55,10 @@ pub mod code {
         ENDED = 34;
         NOT_OPEN = 64;
         IN_CALL = 65;
+        WAITING = 71;
         BAD_CONFIG = 80;
         NO_MEMORY = 83;
+        TWO_TABLES = 84;
     }
 }
 
@@ -104,6 +106,12 @@ impl Cursor {
     pub const FIRST: Cursor = Cursor { serial: 0, bucket: 0, more: false };
 }
 
+/// Room for fields of later versions.
+pub type Spare = [u32; 8];
+
+/// Room that no version has given a meaning yet is 0.
+pub const NO_SPARE: Spare = [0; 8];
+
 /// What a table is opened with.
 #[repr(C)]
 #[derive(Clone, Copy)]
@@ -119,15 +127,16 @@ pub struct Config {
     pub listed: bool,
     pub low: bool,
     pub shrink: bool,
+    pub spare: Spare,
 }
 
-const _: () = assert!(size_of::<Config>() == 36);
+const _: () = assert!(size_of::<Config>() == 68);
 const _: () = assert!(offset_of!(Config, nodes) == 0 && offset_of!(Config, pages) == 4);
 const _: () = assert!(offset_of!(Config, callers) == 8 && offset_of!(Config, hint) == 12);
 const _: () = assert!(offset_of!(Config, min) == 16 && offset_of!(Config, max) == 20);
 const _: () = assert!(offset_of!(Config, seed) == 24 && offset_of!(Config, rewalks) == 28);
 const _: () = assert!(offset_of!(Config, listed) == 32 && offset_of!(Config, low) == 33);
-const _: () = assert!(offset_of!(Config, shrink) == 34);
+const _: () = assert!(offset_of!(Config, shrink) == 34 && offset_of!(Config, spare) == 36);
 
 impl Config {
     /// All its bytes are 0.
@@ -143,6 +152,7 @@ impl Config {
         listed: false,
         low: false,
         shrink: false,
+        spare: NO_SPARE,
     };
 }
 
@@ -162,15 +172,17 @@ pub struct Reply {
     pub caller: u32,
     pub kick: bool,
     pub again: bool,
+    pub spare: Spare,
 }
 
-const _: () = assert!(size_of::<Reply>() == 64);
+const _: () = assert!(size_of::<Reply>() == 96);
 const _: () = assert!(offset_of!(Reply, count) == 0 && offset_of!(Reply, section) == 8);
 const _: () = assert!(offset_of!(Reply, next) == 16 && offset_of!(Reply, owner) == 32);
 const _: () = assert!(offset_of!(Reply, len) == 36 && offset_of!(Reply, table) == 40);
 const _: () = assert!(offset_of!(Reply, last) == 44 && offset_of!(Reply, size) == 48);
 const _: () = assert!(offset_of!(Reply, returned) == 52 && offset_of!(Reply, caller) == 56);
 const _: () = assert!(offset_of!(Reply, kick) == 60 && offset_of!(Reply, again) == 61);
+const _: () = assert!(offset_of!(Reply, spare) == 64);
 
 impl Reply {
     /// A reply without numbers.
@@ -187,6 +199,7 @@ impl Reply {
         caller: 0,
         kick: false,
         again: false,
+        spare: NO_SPARE,
     };
 }
 
@@ -197,15 +210,16 @@ pub struct Closed {
     pub len: u64,
     pub keys: u32,
     pub size: u32,
+    pub spare: Spare,
 }
 
-const _: () = assert!(size_of::<Closed>() == 16);
+const _: () = assert!(size_of::<Closed>() == 48);
 const _: () = assert!(offset_of!(Closed, len) == 0 && offset_of!(Closed, keys) == 8);
-const _: () = assert!(offset_of!(Closed, size) == 12);
+const _: () = assert!(offset_of!(Closed, size) == 12 && offset_of!(Closed, spare) == 16);
 
 impl Closed {
     /// All its bytes are 0.
-    pub const EMPTY: Closed = Closed { len: 0, keys: 0, size: 0 };
+    pub const EMPTY: Closed = Closed { len: 0, keys: 0, size: 0, spare: NO_SPARE };
 }
 
 /// A caller of a table, or nothing. Its fields are the archive's.
@@ -230,10 +244,11 @@ unsafe impl Send for Handle {}
 // SAFETY: each line is as the header declares the function, and `build.rs` links the archive that the header is of.
 // The head of this file says why those that are `safe` may be called with any arguments.
 unsafe extern "C" {
-    pub safe fn rht_config_init(config: &mut Config);
+    pub safe fn rht_config_plain(config: &mut Config);
     /// `handles` points to `count` handles, which nobody else uses meanwhile.
     pub unsafe fn rht_open(config: &mut Config, handles: *mut Handle, count: usize) -> u32;
     pub safe fn rht_close(handle: &mut Handle) -> u32;
+    pub safe fn rht_close_now(handle: &mut Handle, given_up: &mut u32) -> u32;
     /// `handles` points to `count` handles of one table, and `into` to `room` pairs, which nobody else uses meanwhile.
     /// Neither is null where there are none either.
     pub unsafe fn rht_close_all(
@@ -301,7 +316,7 @@ pub fn open(config: &mut Config, handles: &mut [Handle]) -> u32 {
 ///
 /// # Safety
 ///
-/// The handles are of one table.
+/// The handles are of one table. The archive refuses those of two, as tests show; but no clause says so.
 pub unsafe fn close_all(handles: &mut [Handle], into: &mut [Pair], closed: &mut Closed) -> u32 {
     // SAFETY: the handles are as this function's caller owes. The pointers and numbers are as in `open`.
     unsafe { rht_close_all(handles.as_mut_ptr(), handles.len(), into.as_mut_ptr(), into.len(), closed) }
@@ -321,7 +336,7 @@ pub fn pairs(handle: &mut Handle, skip: usize, into: &mut [Pair]) -> usize {
 
 #[cfg(test)]
 mod tests {
-    use super::code;
+    use super::*;
 
     /// The header's text.
     fn header() -> String {
@@ -388,6 +403,74 @@ mod tests {
         for (name, kinds) in &prototypes {
             assert_eq!(&declared(name), kinds, "{name}");
         }
-        assert_eq!(prototypes.len(), 20);
+        assert_eq!(prototypes.len(), 21);
+    }
+
+    fn plain() -> Config {
+        let mut config = Config::EMPTY;
+        rht_config_plain(&mut config);
+        config
+    }
+
+    /// A handle of a table that was just opened, in which port 80 is bound to this owner.
+    fn with_a_port(owner: u32) -> Handle {
+        let mut handles = [Handle::BLANK];
+        assert_eq!(open(&mut plain(), &mut handles), code::OPENED);
+        let [mut handle] = handles;
+        let mut reply = Reply::EMPTY;
+        assert_eq!(rht_bind_in(&mut handle, PORT, owner, 1, &mut reply), code::BOUND);
+        handle
+    }
+
+    const PORT: Port = Port { number: 80, net: 0 };
+
+    #[test]
+    fn a_plain_config_has_the_seed_1() {
+        assert_eq!((plain().seed, plain().spare), (1, NO_SPARE));
+    }
+
+    #[test]
+    fn a_spare_word_of_a_config_has_to_be_0() {
+        let mut handles = [Handle::BLANK];
+        for word in 0..NO_SPARE.len() {
+            let mut config = plain();
+            config.spare[word] = 1;
+            assert_eq!(open(&mut config, &mut handles), code::BAD_CONFIG);
+            assert_eq!(config.spare[word], 1);
+            config.spare[word] = 0;
+            assert_eq!(open(&mut config, &mut handles), code::OPENED);
+            assert_eq!(rht_close(&mut handles[0]), code::CLOSED);
+        }
+    }
+
+    #[test]
+    fn spare_words_of_replies_are_written_as_0() {
+        let mut handles = [with_a_port(7)];
+        let mut reply = Reply { spare: [1; 8], ..Reply::EMPTY };
+        assert_eq!(rht_count(&mut handles[0], &mut reply), code::COUNTED);
+        assert_eq!((reply.count, reply.spare), (1, NO_SPARE));
+        let mut closed = Closed { spare: [1; 8], ..Closed::EMPTY };
+        // SAFETY: it is one handle.
+        let code = unsafe { close_all(&mut handles, &mut [], &mut closed) };
+        assert_eq!((code, closed.keys, closed.spare), (code::ENDED, 1, NO_SPARE));
+    }
+
+    /// All is as it was: the handles, and what is written to.
+    #[test]
+    fn handles_of_two_tables_are_refused() {
+        let mut handles = [with_a_port(7), with_a_port(8)];
+        let mut pairs = [Pair { port: PORT, owner: 9 }; 2];
+        let mut closed = Closed { len: 3, keys: 4, size: 5, spare: [6; 8] };
+        // SAFETY: they are of two tables, which the archive looks at first.
+        let code = unsafe { close_all(&mut handles, &mut pairs, &mut closed) };
+        assert_eq!(code, code::TWO_TABLES);
+        assert_eq!(pairs.map(|pair| pair.owner), [9, 9]);
+        assert_eq!((closed.len, closed.keys, closed.size, closed.spare), (3, 4, 5, [6; 8]));
+        let mut owner = 0;
+        for (handle, bound) in handles.iter_mut().zip([7, 8]) {
+            assert_eq!(rht_find(handle, PORT, &mut owner), code::FOUND);
+            assert_eq!(owner, bound);
+            assert_eq!(rht_close(handle), code::CLOSED);
+        }
     }
 }

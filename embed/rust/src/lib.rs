@@ -52,7 +52,7 @@
 //! - A call is left by its return alone: its thread isn't cancelled, and no `longjmp` goes over it.
 //! - `malloc`, `realloc` and `free` are those of one allocator, and align a block to each power of two up to 16 that
 //!   divides its size. Those of the C library do.
-//! - Nothing else in the program defines a name that begins with `rht_` or `rattle_`, so the archive is linked once.
+//! - Nothing else in the program defines a name that begins with `rht_`, so the archive is linked once.
 //! - The processor is of x86-64-v2.
 //!
 //! # How it is built
