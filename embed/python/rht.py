@@ -56,8 +56,9 @@ from typing import List, NamedTuple, Optional, Tuple
 
 __all__ = [
     "Absent", "Again", "BadConfig", "Bound", "Busy", "Clear", "Config", "Cursor", "Elsewhere", "Ended", "Exists",
-    "Forked", "Idle", "Misfit", "Moved", "NoMemory", "NoNode", "NoTable", "NotWhole", "Pair", "Pending", "Port",
-    "Rebound", "Released", "Reply", "RhtError", "Seat", "SeatClosed", "SeatInUse", "Table", "TooBig", "Walked",
+    "Forked", "Idle", "Misfit", "Moved", "NoMemory", "NoNode", "NoSeed", "NoTable", "NotWhole", "Pair", "Pending",
+    "Port", "Rebound", "Released", "Reply", "RhtError", "Seat", "SeatClosed", "SeatInUse", "Table", "TooBig",
+    "TwoTables", "Walked",
 ]
 
 # ---- what is said
@@ -250,6 +251,10 @@ class BadConfig(RhtError):
 
 class NoMemory(RhtError):
     """Memory has run out. No table was opened, or no seat was closed."""
+
+
+class NoSeed(RhtError):
+    """The system gives no random bytes for a seed, and the program gave none. No table was opened."""
 
 
 class TwoTables(RhtError):
@@ -706,10 +711,20 @@ class Seat:
             raise Misfit(code)
 
 
+def _drawn_seed():
+    """A seed from the system."""
+    try:
+        return int.from_bytes(os.urandom(4), "little")
+    except (NotImplementedError, OSError) as error:
+        raise NoSeed("the system gives no random bytes (%s)" % error) from error
+
+
 def _config(numbers, listed, low, shrink):
-    """The struct of a table's config. A number that is None stays that of a plain table."""
+    """The struct of a table's config. A number that is None stays that of a plain table, but for the seed."""
     config = _Config()
     _lib.rht_config_plain(ctypes.byref(config))
+    if numbers["seed"] is None:
+        config.seed = _drawn_seed()
     config.listed, config.low, config.shrink = bool(listed), bool(low), bool(shrink)
     for name, value in numbers.items():
         if value is None:
@@ -775,15 +790,16 @@ class Table:
     - max: the greatest size in buckets, 4 to 131,072, or 0 for none. It is rounded down to a power of two. The first
       table has 64 buckets, or with a hint the least power of two that is four thirds of it or more. It has min at
       least and max at most.
-    - seed: the seed of the first table's hash, a number of 32 bits; 1 where nothing is said. Against chosen ports a
-      random one helps.
+    - seed: the seed of the first table's hash, a number of 32 bits, from which those of later tables follow. Where
+      nothing is said it is drawn from the system, by os.urandom, anew for each table. Whoever knows it can choose ports
+      of one bucket.
     - rewalks: how often a look-up walks one bucket again, 0 to 255; 8 where nothing is said.
     - low: a port's number is its own hash, so that a test can choose buckets.
     - shrink: the table gets smaller when it is nearly empty.
 
     BadConfig is raised where a number isn't in its range, where min is above max, or where the first table doesn't
-    fit the pages. NoMemory is raised where memory has run out. All memory that the library's calls need is taken
-    here, but for that of `end`.
+    fit the pages. NoSeed is raised where the system has no seed to give, and NoMemory where memory has run out. All
+    memory that the library's calls need is taken here, but for that of `end`.
     """
 
     def __init__(

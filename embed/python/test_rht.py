@@ -443,6 +443,38 @@ class Ends(unittest.TestCase):
             one.seats[0] = two.seats[0]
 
 
+class Seeds(unittest.TestCase):
+    """The seed with which a table is opened."""
+
+    def seed(self, **numbers):
+        with rht.Table(**numbers) as table:
+            return table.config.seed
+
+    def test_each_table_has_one_of_its_own(self):
+        # Of 8 random seeds two are alike once in 150 million runs.
+        self.assertEqual(len({self.seed() for _ in range(8)}), 8)
+
+    def test_it_has_four_bytes_of_the_system(self):
+        for drawn, seed in ((b"\1\2\3\4", 0x04030201), (b"\0\0\0\0", 0), (b"\xff\xff\xff\xff", 4294967295)):
+            with mock.patch.object(rht.os, "urandom", return_value=drawn) as urandom:
+                self.assertEqual(self.seed(), seed)
+            urandom.assert_called_once_with(4)
+
+    def test_one_that_is_given_stays(self):
+        with mock.patch.object(rht.os, "urandom") as urandom:
+            for seed in (0, 1, 4294967295):
+                self.assertEqual(self.seed(seed=seed), seed)
+        urandom.assert_not_called()
+
+    def test_without_one_no_table_is_opened(self):
+        for error in (NotImplementedError, OSError):
+            with mock.patch.object(rht.os, "urandom", side_effect=error):
+                with mock.patch.object(rht._lib, "rht_open") as opened:
+                    self.assertRaises(rht.NoSeed, rht.Table)
+                opened.assert_not_called()
+                self.assertEqual(self.seed(seed=7), 7)
+
+
 class WrongUses(unittest.TestCase):
     """What a program should not do raises, and leaves the table as it was."""
 

@@ -1,6 +1,8 @@
 //! What a table is opened with.
 
 use crate::ffi;
+use std::collections::hash_map::RandomState;
+use std::hash::{BuildHasher, Hasher};
 
 /// How many owners a port may have.
 #[derive(Clone, Copy, Debug, PartialEq, Eq, Hash)]
@@ -47,7 +49,8 @@ pub struct Config {
     pub min: u32,
     /// The greatest size in buckets, 4 to 131,072, or 0 for none. It is rounded down to a power of two.
     pub max: u32,
-    /// The seed of the first table's hash, any number of 32 bits. Against chosen ports a random one helps.
+    /// The seed of the first table's hash, any number of 32 bits. Those of later tables follow from it. Whoever knows
+    /// it can choose ports that all lie in one bucket, so a program that gives one keeps it to itself.
     pub seed: u32,
     /// How often a look-up walks one bucket again, 0 to 255.
     pub rewalks: u32,
@@ -59,11 +62,14 @@ pub struct Config {
 
 impl Config {
     /// A table with 4,096 nodes, 256 pages and one seat, of one owner for each port, that doesn't shrink.
+    ///
+    /// Each call draws a seed of its own, from the random state of `std`, whose keys come from the system. A program
+    /// that wants each of its runs alike gives one: `Config { seed: 1, ..Config::plain() }`.
     #[must_use]
     pub fn plain() -> Config {
         let mut config = ffi::Config::EMPTY;
         ffi::rht_config_plain(&mut config);
-        Config::from_c(&config)
+        Config { seed: drawn_seed(), ..Config::from_c(&config) }
     }
 
     pub(crate) fn from_c(config: &ffi::Config) -> Config {
@@ -100,8 +106,13 @@ impl Config {
     }
 }
 
+/// A seed that others don't know: one half of a hash over nothing, by keys of its own.
+fn drawn_seed() -> u32 {
+    RandomState::new().build_hasher().finish() as u32
+}
+
 impl Default for Config {
-    /// The plain config.
+    /// The plain config, with a seed of its own.
     fn default() -> Config {
         Config::plain()
     }
