@@ -35,7 +35,9 @@ waits comes to an end is not claimed, and neither is any speed.
 What the library asks of a program is kept here at run time:
 
 - A seat is in one call at a time. The interpreter's lock is let go during a call, so a seat has a lock of its own. It
-  isn't waited for: a second thread gets SeatInUse.
+  isn't waited for: a second thread gets SeatInUse. An exception that breaks a call off leaves no seat in use, also that
+  of a signal, as KeyboardInterrupt. (Before Python 3.10 it may, because a signal can come between the body of a `with`
+  and its end there.)
 - A seat is never copied or pickled; that raises TypeError.
 - Behind a fork the seats are dead in the child: calls raise Forked, and closing does nothing.
 - Numbers that are out of range raise ValueError before the library sees them.
@@ -475,16 +477,35 @@ def _port(port):
     return _Port(_number(number, 32, "a port's number"), _number(net, 16, "a port's net"))
 
 
+class _Hold:
+    """A call's hold on its seat, or on all seats of its table: a lock, and of each seat the hold after this one.
+
+    A call takes the lock of its own hold, by a `with`. It never waits for that, because no other call takes this lock.
+    Then it appends the hold to the chain of the seat's holds, if the lock of the last one isn't taken. This is one call
+    of setdefault, which admits one of several threads, and shows the others whose hold is there. So a seat is in use
+    exactly while the lock of its last hold is taken.
+
+    The exception of a signal, as KeyboardInterrupt, may come between any two steps of Python. Before the hold is in the
+    chain the seat isn't held. After that the end of the `with` releases the lock, which is one step, because it is code
+    in C. A lock of the seat that is acquired before a `try` and released by its `finally` would have two gaps: between
+    the acquisition and the `try`, and before the first step of the `finally`."""
+
+    __slots__ = ("lock", "after")
+
+    def __init__(self):
+        self.lock = threading.Lock()
+        self.after = {}
+
+
 def _alone(method):
     """Lets one thread at a time into a method of a seat, and refuses any other."""
 
     @functools.wraps(method)
     def guarded(self, *args, **kwargs):
-        self._hold()
-        try:
+        hold = _Hold()
+        with hold.lock:
+            self._hold(hold)
             return method(self, *args, **kwargs)
-        finally:
-            self._lock.release()
 
     return guarded
 
@@ -513,7 +534,7 @@ class Seat:
         self._handle = handle
         self._at = ctypes.pointer(handle)
         self._pid = os.getpid()
-        self._lock = threading.Lock()
+        self._last = _Hold()
 
     def __repr__(self):
         return "<rht.Seat %d>" % self.caller
@@ -525,12 +546,16 @@ class Seat:
         if getpid() == self._pid:
             close(self._at)
 
-    def _hold(self):
-        """Takes the seat's lock, without waiting for it."""
+    def _hold(self, hold):
+        """Holds the seat by this hold, whose lock is taken, without waiting."""
         if os.getpid() != self._pid:
             raise Forked("the process that opened seat %d was %d" % (self.caller, self._pid))
-        if not self._lock.acquire(False):
-            raise SeatInUse("seat %d is in a call" % self.caller)
+        last = self._last
+        while last is not hold:
+            if last.lock.locked():
+                raise SeatInUse("seat %d is in a call" % self.caller)
+            last = last.after.setdefault(id(self), hold)
+        self._last = hold
 
     def _made(self, function, *args):
         """The code of a call. One that an exception broke off before is finished first."""
@@ -838,18 +863,16 @@ class Table:
         finished before, by turns. It is proved of the library's call that one run has the calls of all seats that
         are closed by it, with their replies, and that this was bound at its end.
 
+        If several threads call it at once, one at most gets what was bound. The others get SeatInUse or SeatClosed.
+
         SeatInUse is raised where a seat is in a call, SeatClosed where all seats were closed, Forked in a forked
         child, and NoMemory or MemoryError where memory has run out. Then no seat was closed. Where another exception
         breaks it off, as KeyboardInterrupt may, seats may be closed, and what was bound may be lost."""
-        held = []
-        try:
+        hold = _Hold()
+        with hold.lock:
             for seat in self._seats:
-                seat._hold()
-                held.append(seat)
+                seat._hold(hold)
             return self._end([seat for seat in self._seats if seat._handle.in_use])
-        finally:
-            for seat in held:
-                seat._lock.release()
 
     def _end(self, seats):
         """The same with these seats, which are all that are open, and are held."""

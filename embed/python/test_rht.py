@@ -1,18 +1,22 @@
-"""Tests of the module rht: each call, wrong uses, threads, forks, and the header that it was written after.
+"""Tests of the module rht: each call, wrong uses, threads, signals, forks, and the header that it was written after.
 
 They run by `python3 embed/python/test_rht.py`, with the library that rht finds.
 """
 
+import contextlib
 import copy
 import ctypes
 import os
 import pickle
+import random
 import re
 import shutil
+import signal
 import subprocess
 import sys
 import tempfile
 import threading
+import time
 import unittest
 from unittest import mock
 
@@ -39,6 +43,16 @@ def begin(seat, name, *args):
 
 def begin_bind(seat, number, owner):
     begin(seat, "rht_bind_begin", rht._Port(number, 0), owner)
+
+
+@contextlib.contextmanager
+def in_use(*seats):
+    """These seats are in use, as by a call of another thread."""
+    hold = rht._Hold()
+    with hold.lock:
+        for seat in seats:
+            seat._hold(hold)
+        yield
 
 
 class Calls(unittest.TestCase):
@@ -362,7 +376,7 @@ class Ends(unittest.TestCase):
         with rht.Table(callers=3) as table:
             one, two, three = table.seats
             one.bind(80, 100)
-            with two._lock:
+            with in_use(two):
                 self.assertRaises(rht.SeatInUse, table.end)
                 self.assert_open(one, three)
             self.assert_open(one, two, three)
@@ -689,6 +703,42 @@ class Threads(unittest.TestCase):
             self.assertEqual(replies, [Bound(False)])
             self.assertEqual(seat.find(80), 100)
 
+    def test_threads_are_never_in_one_seat_at_once(self):
+        inside, met, refused = [], [], []
+
+        def run(seat):
+            for _ in range(2000):
+                hold = rht._Hold()
+                try:
+                    with hold.lock:
+                        seat._hold(hold)
+                        inside.append(hold)
+                        time.sleep(0)
+                        met.extend(other for other in inside if other is not hold)
+                        inside.remove(hold)
+                except rht.SeatInUse:
+                    refused.append(hold)
+
+        with rht.Table() as table:
+            self.run_all(mock.Mock(seats=table.seats * 4), run)
+            self.assertEqual((inside, met), ([], []))
+            self.assertGreater(len(refused), 0)
+            self.assertEqual(table.seats[0].count(), 0)
+
+    def test_one_of_several_threads_ends_a_table(self):
+        ended = []
+
+        def run(table):
+            with contextlib.suppress(rht.SeatInUse, rht.SeatClosed):
+                ended.append(table.end())
+
+        for number in range(100):
+            table = rht.Table(callers=2)
+            table.seats[1].bind(number, 7)
+            self.run_all(mock.Mock(seats=[table] * 4), run)
+            self.assertEqual(ended.pop().bindings, [(Port(number), [7])])
+            self.assertEqual(ended, [])
+
     def test_a_call_within_a_call_is_refused(self):
         with rht.Table() as table:
             (seat,) = table.seats
@@ -696,6 +746,88 @@ class Threads(unittest.TestCase):
             with left_off, mock.patch("rht.time.sleep", lambda _: seat.count()):
                 self.assertRaises(rht.SeatInUse, seat.bind, 80, 100)
             self.assertEqual(seat.count(), 1)
+
+
+@unittest.skipIf(sys.version_info < (3, 10), "a signal can come between the body of a with and its end")
+class Signals(unittest.TestCase):
+    """Real signals break calls off, at whatever step they come. No seat stays in use."""
+
+    def setUp(self):
+        def interrupt(*_):
+            raise KeyboardInterrupt
+
+        self.addCleanup(signal.signal, signal.SIGALRM, signal.signal(signal.SIGALRM, interrupt))
+        self.addCleanup(signal.setitimer, signal.ITIMER_REAL, 0)
+
+    def broken_off(self, seconds, calls):
+        """Makes these calls until a signal breaks one off after so many seconds, or comes after the last one."""
+        try:
+            signal.setitimer(signal.ITIMER_REAL, seconds)
+            for call in calls:
+                call()
+            # A signal that comes just before a sleep doesn't end it, so none is long.
+            for _ in range(10000):
+                time.sleep(0.001)
+        except KeyboardInterrupt:
+            return
+        self.fail("no signal came")
+
+    def assert_free(self, table):
+        """No seat of the table is in use, be it open or closed."""
+        for seat in table.seats:
+            with contextlib.suppress(rht.SeatClosed):
+                seat.count()
+        table.close()
+
+    def calls(self, seat):
+        """Each call, so often that a signal comes before the last one."""
+        for _ in range(1000):
+            yield from (
+                lambda: seat.find(80), lambda: seat.bind(81, 7), lambda: seat.all(81), lambda: seat.rebind(81, 7, 7),
+                lambda: seat.release(81, 7), seat.tidy, seat.walk, seat.pairs, seat.count, seat.work,
+            )
+
+    def test_no_call_leaves_its_seat_in_use(self):
+        for number in range(500):
+            table = rht.Table(nodes=16, pages=4, hint=3)
+            self.broken_off(random.Random(number).uniform(20e-6, 400e-6), self.calls(table.seats[0]))
+            self.assert_free(table)
+
+    def test_no_closing_leaves_a_seat_in_use(self):
+        closings = {
+            "Seat.close": lambda table: [seat.close for seat in table.seats],
+            "Table.close": lambda table: [table.close],
+            "Table.end": lambda table: [table.end],
+            "Table.__exit__": lambda table: [table.__exit__],
+        }
+        for number in range(500):
+            name, close = list(closings.items())[number % len(closings)]
+            tables = [rht.Table(callers=2, nodes=16, pages=4, hint=3) for _ in range(20)]
+            calls = [call for table in tables for call in close(table)]
+            with self.subTest(name):
+                self.broken_off(random.Random(number).uniform(10e-6, 200e-6), calls)
+                for table in tables:
+                    self.assert_free(table)
+
+    def test_another_thread_is_refused_still(self):
+        with rht.Table() as table:
+            (seat,) = table.seats
+            for number in range(20):
+                self.broken_off(random.Random(number).uniform(20e-6, 400e-6), self.calls(seat))
+            raised = []
+
+            def run():
+                try:
+                    seat.count()
+                except rht.SeatInUse as error:
+                    raised.append(error)
+
+            with in_use(seat):
+                thread = threading.Thread(target=run)
+                thread.start()
+                thread.join(10)
+                self.assertEqual((len(raised), thread.is_alive()), (1, False))
+            self.assertIn(seat.count(), (0, 1))
 
 
 @unittest.skipUnless(hasattr(os, "fork"), "no fork here")
@@ -738,7 +870,7 @@ class Forks(unittest.TestCase):
     def test_a_seat_in_use_is_dead_too(self):
         with rht.Table() as table:
             (seat,) = table.seats
-            with seat._lock:
+            with in_use(seat):
                 self.assertTrue(self.in_child(lambda: self.assertRaises(rht.Forked, seat.count)))
                 self.assertTrue(self.in_child(table.close))
 
