@@ -22,6 +22,8 @@ What a program does beside its calls:
   Moved(again=True).
 - A bind that answers Busy or NoTable is made again behind a work().
 - A release and a rebind take a node out. It is free again behind a tidy() of the same seat.
+- A seat that closes while nodes wait for its tidying loses them for all others. So a close tidies some times first.
+  What is left then is given up: Seat.given_up and Table.given_up are the numbers of these nodes.
 - To have what is bound at the end, close all seats by Table.end().
 - A call that an exception broke off may hold a lock, be the one at work, and keep nodes from coming back. Make a
   further call of that seat, which finishes it, or close the seat.
@@ -455,6 +457,9 @@ _ROUNDS = 64
 # The limit of a piece, where a whole walk is made.
 _PIECE = 256
 
+# How often a seat that closes tidies before it gives up the nodes that wait.
+_TIDIES = 64
+
 
 def _told(code, reply, codes):
     """The reply that this code tells, which has to be one of these."""
@@ -475,6 +480,27 @@ def _port(port):
     """The struct of a port, or of a number alone."""
     number, net = port if isinstance(port, tuple) else (port, 0)
     return _Port(_number(number, 32, "a port's number"), _number(net, 16, "a port's net"))
+
+
+def _close_in_any_case(
+    at, lib=_lib, new_reply=_Reply, new_number=_U32, clock=time, tidies=_TIDIES, waiting=_WAITING, pending=_PENDING
+):
+    """Closes the handle at this place: the code, and how many nodes were given up. Nodes that wait are tidied some
+    times, and then given up.
+
+    A seat may be deleted while the interpreter ends, when the names of this module may be gone. So all of them that are
+    used here are arguments."""
+    given_up = new_number()
+    code = lib.rht_close(at)
+    for _ in range(tidies):
+        if code != waiting:
+            break
+        if lib.rht_tidy(at, new_reply()) == pending:
+            clock.sleep(0)
+        code = lib.rht_close(at)
+    if code == waiting:
+        code = lib.rht_close_now(at, given_up)
+    return code, given_up.value
 
 
 class _Hold:
@@ -526,11 +552,13 @@ class Seat:
     Each call raises SeatClosed, SeatInUse or Forked where it isn't made, and ValueError or TypeError for a wrong
     argument. Owners are numbers of 32 bits.
 
-    A seat that nobody has any more is closed, unless a call of it is in progress.
+    With `with` a seat is closed at the end. A seat that nobody has any more is closed too, unless a call of it is in
+    progress. caller is its number, and given_up how many nodes its close gave up.
     """
 
     def __init__(self, caller, handle):
         self.caller = caller
+        self.given_up = 0
         self._handle = handle
         self._at = ctypes.pointer(handle)
         self._pid = os.getpid()
@@ -542,7 +570,13 @@ class Seat:
     def __reduce_ex__(self, protocol):
         raise TypeError("a seat can't be copied or pickled")
 
-    def __del__(self, getpid=os.getpid, close=_lib.rht_close):
+    def __enter__(self):
+        return self
+
+    def __exit__(self, *_):
+        self.close()
+
+    def __del__(self, getpid=os.getpid, close=_close_in_any_case):
         if getpid() == self._pid:
             close(self._at)
 
@@ -721,17 +755,21 @@ class Seat:
         """Closes the seat, and finishes a call in progress before. A closed seat stays closed, and behind a fork
         nothing is done. SeatInUse is raised where the seat is in a call.
 
-        The last seat of a table gives back its memory, and what is bound then is lost; Table.end() gives it. The nodes
-        that a seat's calls took out and that it hasn't tidied stay taken while other seats of the table are open."""
+        While nodes wait for the seat's tidying the library refuses to close it. So it is tidied and closed again, 64
+        times at most. A call of another seat may keep the nodes waiting all the same. Then they are given up: they stay
+        taken until the table ends, and given_up is their number.
+
+        The last seat of a table gives back its memory, and what is bound then is lost; Table.end() gives it."""
         if os.getpid() == self._pid:
             self._close()
 
     @_alone
     def _close(self):
-        code = _lib.rht_close(self._at)
+        code, given_up = _close_in_any_case(self._at)
         if code == _IN_CALL:
             self._go_on(_Reply())
-            code = _lib.rht_close(self._at)
+            code, given_up = _close_in_any_case(self._at)
+        self.given_up += given_up
         if code not in (_CLOSED, _NOT_OPEN):
             raise Misfit(code)
 
@@ -852,6 +890,11 @@ class Table:
         """The seats of the table, in order of their numbers, also those that were closed."""
         return self._seats
 
+    @property
+    def given_up(self) -> int:
+        """How many nodes the seats that were closed one by one have given up, as Seat.close says."""
+        return sum(seat.given_up for seat in self._seats)
+
     def end(self) -> Ended:
         """Closes all seats that are open together, and with them the table: Ended, with what was bound.
 
@@ -890,7 +933,8 @@ class Table:
         return Ended(_listed(into[: closed.len]), closed.size)
 
     def close(self):
-        """Closes all seats. Where one is in a call, the others are closed, and SeatInUse is raised."""
+        """Closes all seats, each as Seat.close does. Where one is in a call, the others are closed, and SeatInUse is
+        raised."""
         in_use = None
         for seat in self.seats:
             try:

@@ -457,6 +457,103 @@ class Ends(unittest.TestCase):
             one.seats[0] = two.seats[0]
 
 
+class Closes(unittest.TestCase):
+    """Seats that close one by one, in tables of three nodes, with nodes that wait for a tidying or without."""
+
+    def seats(self):
+        return rht.Table(callers=2, nodes=3).seats
+
+    def take_out(self, seat, number):
+        """Binds a port, and takes it out again. Its node waits for a tidying."""
+        self.assertEqual(seat.bind(number, 9), Bound(False))
+        self.assertEqual(seat.release(number, 9), Released(False))
+
+    def room(self, seat):
+        """How many ports can be bound, one after another."""
+        self.assertEqual(seat.tidy(), Clear(0))
+        number = 0
+        while seat.bind(1000 + number, 1) != NoNode():
+            number += 1
+        return number
+
+    def test_the_library_refuses_to_close_while_a_node_waits(self):
+        seat, other = self.seats()
+        self.take_out(seat, 80)
+        for _ in range(2):
+            self.assertEqual(rht._lib.rht_close(seat._at), rht._WAITING)
+        self.assertEqual(seat.tidy(), Clear(1))
+        self.assertEqual(rht._lib.rht_close(seat._at), rht._CLOSED)
+        self.assertEqual(self.room(other), 3)
+
+    def test_nodes_come_back_by_a_close(self):
+        for close in (rht.Seat.close, rht.Seat.__exit__, rht.Seat.__del__):
+            seat, other = self.seats()
+            self.take_out(seat, 80)
+            self.take_out(seat, 81)
+            close(seat)
+            self.assertRaises(rht.SeatClosed, seat.count)
+            self.assertEqual((seat.given_up, self.room(other)), (0, 3))
+
+    def test_nodes_that_wait_for_a_call_are_given_up(self):
+        for close in (rht.Seat.close, rht.Seat.__exit__, rht.Seat.__del__):
+            seat, other = self.seats()
+            self.take_out(seat, 80)
+            begin(other, "rht_all_begin", rht._Port(80, 0))
+            self.assertIsInstance(seat.tidy(), Pending)
+            self.take_out(seat, 81)
+            with mock.patch.object(rht.time, "sleep") as yields:
+                close(seat)
+            self.assertEqual(yields.call_args_list, [mock.call(0)] * rht._TIDIES)
+            self.assertRaises(rht.SeatClosed, seat.count)
+            self.assertEqual(seat.given_up, 0 if close is rht.Seat.__del__ else 2)
+            self.assertEqual(self.room(other), 1)
+
+    def test_a_call_that_ends_meanwhile_lets_the_nodes_come_back(self):
+        seat, other = self.seats()
+        begin(other, "rht_all_begin", rht._Port(80, 0))
+        self.take_out(seat, 80)
+        with mock.patch.object(rht.time, "sleep", lambda _: other.find(80)):
+            seat.close()
+        self.assertEqual((seat.given_up, self.room(other)), (0, 3))
+
+    def test_a_with_closes_its_seat(self):
+        seat, other = self.seats()
+        with self.assertRaises(KeyError), seat as same:
+            self.assertIs(same, seat)
+            self.take_out(seat, 80)
+            raise KeyError
+        self.assertRaises(rht.SeatClosed, seat.count)
+        self.assertEqual(self.room(other), 3)
+
+    def test_a_call_that_was_broken_off_is_finished_first(self):
+        seat, other = self.seats()
+        self.take_out(seat, 80)
+        begin_bind(seat, 81, 7)
+        begin(other, "rht_all_begin", rht._Port(80, 0))
+        seat.close()
+        self.assertEqual((seat.given_up, other.find(81), self.room(other)), (1, 7, 1))
+
+    def test_a_table_sums_up_what_its_seats_gave_up(self):
+        with rht.Table(callers=3, nodes=6) as table:
+            one, two, three = table.seats
+            self.assertEqual(table.given_up, 0)
+            begin(three, "rht_all_begin", rht._Port(80, 0))
+            for seat, count in ((one, 1), (two, 2)):
+                for number in range(count):
+                    self.take_out(seat, number)
+        self.assertEqual([seat.given_up for seat in table.seats], [1, 2, 0])
+        self.assertEqual(table.given_up, 3)
+
+    def test_an_unknown_code_is_told(self):
+        for wrong in ("rht_close", "rht_close_now"):
+            with rht.Table() as table:
+                codes = {"rht_close": rht._WAITING, "rht_tidy": rht._PENDING, "rht_close_now": rht._CLOSED, wrong: 99}
+                functions = {name: mock.Mock(return_value=code) for name, code in codes.items()}
+                with mock.patch.multiple(rht._lib, **functions), self.assertRaises(rht.Misfit) as raised:
+                    table.seats[0].close()
+                self.assertEqual(raised.exception.code, 99)
+
+
 class Seeds(unittest.TestCase):
     """The seed with which a table is opened."""
 

@@ -91,7 +91,12 @@ impl Seat {
     ///
     /// Where no other seat of the table is open, the table is closed with them, and what was bound is given. Of the
     /// archive it is proved that one run has the calls of all these seats, with their replies, and that this was bound
-    /// at its end. Where another seat is open the answer is `None`: these are closed as if each were dropped.
+    /// at its end. Where another seat is open the answer is `None`: these are closed as by
+    /// [`close_now`](Seat::close_now), and nodes that wait are given up.
+    ///
+    /// The last call that closes seats of a table ends it, also where threads close at once. If all seats are closed by
+    /// this function, in one call or several, exactly one call returns what was bound. This is tested, and rests on the
+    /// toolchain's reference counts; no clause says it.
     ///
     /// Before that, calls in progress are finished which were forgotten. They are gone on with by turns, so no seat
     /// given here waits for another one in vain; but they may wait for a seat elsewhere.

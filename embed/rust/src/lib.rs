@@ -23,6 +23,8 @@
 //! - A bind that answers [`Bind::Busy`] or [`Bind::NoTable`] is made again behind a [`Seat::work`].
 //! - A release and a rebind take a node out. It is free again behind a [`Seat::tidy`] of the same seat.
 //! - A bind or rebind that answers `NoNode` may find a node behind a tidying, of any seat that took nodes out.
+//! - A seat that closes while nodes wait for its tidying loses them for all others. So [`Seat::close`] is refused then.
+//!   [`Seat::close_now`] gives the nodes up. A seat that is dropped tidies some times, and gives up what is left.
 //! - To have what is bound at the end, close all seats together: [`Table::close`], or [`Seat::close_all`] where they
 //!   come back from threads.
 //! - A seat with a call in progress may hold a lock, be the one at work, and keep nodes from coming back. Others wait
@@ -73,7 +75,7 @@ pub use config::{Config, Hash, Kind};
 pub use ffi::{Pair, Port};
 pub use progress::{Progress, Step};
 pub use replies::{Bind, BindOnce, Cursor, Listed, NotWhole, Rebind, Release, Tidy, Walk, Work};
-pub use seat::Seat;
+pub use seat::{NodesWait, Seat};
 pub use table::{NotOpened, Table};
 
 impl Port {

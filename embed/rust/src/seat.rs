@@ -16,6 +16,9 @@ use std::thread::yield_now;
 /// The limit of a piece, where a whole walk is made.
 const PIECE: u32 = 256;
 
+/// How often a seat that is dropped tidies before it gives up the nodes that wait.
+const TIDIES: u32 = 64;
+
 /// What the seats of one table share beside the table: so two seats are of one table where they share it.
 pub(crate) struct Origin {
     /// The table's nodes.
@@ -48,8 +51,12 @@ pub(crate) struct Origin {
 /// ```
 ///
 /// A seat that is dropped closes, and finishes a call in progress before; for that it may wait. The last seat of a
-/// table gives back its memory. What is bound then is lost; [`close_all`](Seat::close_all) gives it. The nodes that a
-/// seat's calls took out and that it hasn't tidied stay taken while other seats of the table are open.
+/// table gives back its memory. What is bound then is lost; [`close_all`](Seat::close_all) gives it.
+///
+/// The drop tidies the nodes that the seat's calls took out and that still wait, in 64 tries at most. A call of another
+/// seat may keep them waiting all the same. Then the drop gives them up: they stay taken until the table ends, and
+/// their number isn't reported. [`close`](Seat::close) is refused instead, and [`close_now`](Seat::close_now) reports
+/// the number.
 ///
 /// A call that panics since the archive doesn't fit leaves the seat as the archive left it.
 pub struct Seat {
@@ -381,15 +388,92 @@ impl Seat {
     }
 }
 
+/// Closing one seat. Other seats of its table go on. What is bound when the last one closes in this way is lost;
+/// [`close_all`](Seat::close_all) gives it.
+impl Seat {
+    /// Closes the seat, unless nodes wait for its tidying. A call in progress that was forgotten is finished first.
+    ///
+    /// ```
+    /// use rht::{Bind, Config, NodesWait, Port, Release, Table, Tidy};
+    ///
+    /// let mut seat = Table::open(Config::plain()).unwrap().seats.remove(0);
+    /// assert_eq!(seat.bind(Port::plain(80), 100), Bind::Bound { kick: false });
+    /// assert_eq!(seat.release(Port::plain(80), 100), Release::Released { kick: false });
+    ///
+    /// let NodesWait { mut seat } = seat.close().unwrap_err();
+    /// assert_eq!(seat.tidy(), Tidy::Clear { returned: 1 });
+    /// seat.close()?;
+    /// # Ok::<(), NodesWait>(())
+    /// ```
+    ///
+    /// # Errors
+    ///
+    /// [`NodesWait`], with the seat, which is open and as it was: no tidying has given back all nodes that its calls
+    /// took out. If it closed, they would be lost to all seats until the table ends. Tidy until [`Tidy::Clear`] says
+    /// that 0 were returned, and close again; or give them up by [`close_now`](Seat::close_now).
+    pub fn close(mut self) -> Result<(), NodesWait> {
+        match self.call(|handle| ffi::rht_close(handle)) {
+            code::CLOSED => Ok(()),
+            code::WAITING => Err(NodesWait { seat: self }),
+            code => misfit(code),
+        }
+    }
+
+    /// Closes the seat, and gives up the nodes that wait for its tidying: they stay taken until the table ends. Returns
+    /// their number. A call in progress that was forgotten is finished first.
+    pub fn close_now(mut self) -> u32 {
+        let mut given_up = 0;
+        match self.call(|handle| ffi::rht_close_now(handle, &mut given_up)) {
+            code::CLOSED => given_up,
+            code => misfit(code),
+        }
+    }
+
+    /// Closes the seat. Nodes that wait are tidied some times, and then given up. The handle may be blank.
+    fn close_in_any_case(&mut self) -> u32 {
+        let mut reply = ffi::Reply::EMPTY;
+        let mut code = self.call(|handle| ffi::rht_close(handle));
+        for _ in 0..TIDIES {
+            if code != code::WAITING {
+                return code;
+            }
+            if ffi::rht_tidy(&mut self.handle, &mut reply) == code::PENDING {
+                yield_now();
+            }
+            code = ffi::rht_close(&mut self.handle);
+        }
+        if code == code::WAITING {
+            code = ffi::rht_close_now(&mut self.handle, &mut 0);
+        }
+        code
+    }
+}
+
 impl Drop for Seat {
     fn drop(&mut self) {
-        let code = self.call(|handle| ffi::rht_close(handle));
-        // It isn't open where it was closed together with others.
+        let code = self.close_in_any_case();
+        // It isn't open where it was closed before.
         if !matches!(code, code::CLOSED | code::NOT_OPEN) && !std::thread::panicking() {
             misfit(code);
         }
     }
 }
+
+/// A seat that [`Seat::close`] didn't close, because nodes that its calls took out still wait. It is open, and as it
+/// was, but for a call in progress that was forgotten: that is finished.
+#[derive(Debug)]
+pub struct NodesWait {
+    /// The seat.
+    pub seat: Seat,
+}
+
+impl fmt::Display for NodesWait {
+    fn fmt(&self, f: &mut fmt::Formatter<'_>) -> fmt::Result {
+        f.write_str("nodes that the seat's calls took out still wait")
+    }
+}
+
+impl std::error::Error for NodesWait {}
 
 impl fmt::Debug for Seat {
     fn fmt(&self, f: &mut fmt::Formatter<'_>) -> fmt::Result {

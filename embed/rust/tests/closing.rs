@@ -1,8 +1,9 @@
-//! Seats that are closed together, and what is bound at the end. The listings are worked out by hand.
+//! Seats that are closed together, with what is bound at the end, and one by one, with nodes that wait or without.
+//! The listings and numbers are worked out by hand.
 
 use rht::{
-    Bind, Closed, Config, Hash, Kind, NotClosed, Pair, Port, Rebind, Release, Seat, Step, Table,
-    WhyNotClosed, Work,
+    Bind, Closed, Config, Hash, Kind, NodesWait, NotClosed, Pair, Port, Rebind, Release, Seat, Step, Table,
+    Tidy, WhyNotClosed, Work,
 };
 use std::thread;
 
@@ -194,6 +195,108 @@ fn calls_that_were_forgotten_are_finished_by_turns() {
         let owner = closed.bindings[0].owner;
         assert!(owner == 1 || owner == 2 && !is_over, "{operations}: {owner}");
     }
+}
+
+/// Binds this port, and takes it out again. Its node waits for a tidying.
+fn take_out(seat: &mut Seat, at: Port) {
+    bind(seat, at, 9);
+    assert_eq!(seat.release(at, 9), Release::Released { kick: false });
+}
+
+/// How many ports can be bound, one after another.
+fn room(seat: &mut Seat) -> u32 {
+    assert_eq!(seat.tidy(), Tidy::Clear { returned: 0 });
+    (1_000..).take_while(|&number| seat.bind(port(number), 1) != Bind::NoNode).count() as u32
+}
+
+/// Two seats of a table with three nodes.
+fn two_of_three_nodes() -> (Seat, Seat) {
+    let mut seats = open(2, Config { nodes: 3, ..Config::plain() });
+    let two = seats.remove(1);
+    (seats.remove(0), two)
+}
+
+#[test]
+fn a_seat_closes_where_no_node_waits() {
+    let (one, mut two) = two_of_three_nodes();
+    one.close().expect("it has taken none out");
+    assert_eq!(room(&mut two), 3);
+    two.close().expect("it has taken none out");
+}
+
+/// Nothing is done by a close that is refused, so the tidying behind it has the node.
+#[test]
+fn a_seat_does_not_close_while_a_node_waits() {
+    let (mut one, mut two) = two_of_three_nodes();
+    take_out(&mut one, port(80));
+    let refused = one.close().expect_err("a node waits");
+    assert_eq!(refused.to_string(), "nodes that the seat's calls took out still wait");
+    let NodesWait { seat: mut one } = refused.seat.close().expect_err("it waits still");
+    assert_eq!((one.caller(), one.find(port(80))), (0, None));
+    assert_eq!(one.tidy(), Tidy::Clear { returned: 1 });
+    one.close().expect("none waits");
+    assert_eq!(room(&mut two), 3);
+}
+
+/// One node waits since a tidying, for the other seat's call, and one came after it.
+#[test]
+fn nodes_are_given_up() {
+    let (mut one, mut two) = two_of_three_nodes();
+    take_out(&mut one, port(80));
+    let listing = two.begin_list(port(80));
+    assert!(matches!(one.tidy(), Tidy::Pending { caller: 1, .. }));
+    take_out(&mut one, port(81));
+    assert_eq!(one.close_now(), 2);
+    let _ = listing.finish();
+    assert_eq!(room(&mut two), 1);
+    assert_eq!(two.close_now(), 0);
+}
+
+/// No call is in the way, so the nodes come back.
+#[test]
+fn a_seat_that_is_dropped_tidies() {
+    let (mut one, mut two) = two_of_three_nodes();
+    take_out(&mut one, port(80));
+    take_out(&mut one, port(81));
+    drop(one);
+    assert_eq!(room(&mut two), 3);
+}
+
+/// The other seat's call is in the way, and doesn't go on. So the drop ends, and the nodes are lost.
+#[test]
+fn a_seat_that_is_dropped_gives_nodes_up_in_the_end() {
+    let (mut one, mut two) = two_of_three_nodes();
+    let listing = two.begin_list(port(80));
+    take_out(&mut one, port(80));
+    take_out(&mut one, port(81));
+    drop(one);
+    let _ = listing.finish();
+    assert_eq!(room(&mut two), 1);
+}
+
+/// A release that was forgotten takes its node out before the seat is to close.
+#[test]
+fn a_call_that_was_forgotten_is_finished_by_a_close() {
+    let (mut one, mut two) = two_of_three_nodes();
+    bind(&mut one, port(80), 9);
+    std::mem::forget(one.begin_release(port(80), 9));
+    let NodesWait { seat: mut one } = one.close().expect_err("a node waits");
+    assert_eq!(two.find(port(80)), None);
+    std::mem::forget(one.begin_bind(port(80), 9));
+    assert_eq!(one.close_now(), 1);
+    assert_eq!(two.find(port(80)), Some(9));
+    assert_eq!(room(&mut two), 1);
+}
+
+/// Nodes that wait are no reason to refuse a closing together.
+#[test]
+fn seats_close_together_while_nodes_wait() {
+    let (mut one, mut two) = two_of_three_nodes();
+    take_out(&mut one, port(80));
+    bind(&mut two, port(81), 9);
+    assert_eq!(Seat::close_all(vec![one]).expect("it is one table's"), None);
+    take_out(&mut two, port(80));
+    assert_eq!(ended(vec![two]).bindings, [pair(0, 81, 9)]);
 }
 
 /// Threads bind ports of their own, and give their seats back. The listing has just what they have bound.
