@@ -34,6 +34,17 @@ made in their order. Of the seats that Table.end() closes one run is proved to e
 with their replies, and ends with what was bound. That its order is the order of time isn't proved. That a call which
 waits comes to an end is not claimed, and neither is any speed.
 
+Memory order: a find that answers an owner synchronizes with the bind or rebind that bound it. What the binding thread
+wrote before that call is visible after the find, also in memory that Python's threads share with C. So it is with all,
+walk, pairs, and a bind that answers Exists. A call that begins after another one has returned comes after it. Proved of
+this is that each call makes its operations on single words of the table, one after another, and that its answer is
+right in one order of all operations on these words. No clause speaks of other memory or of time. The rest follows if
+the operations are sequentially consistent, as the toolchain's kit says of its words; that is trusted. It is tested in
+C, in Rust and here.
+
+The seed of a table's hash is drawn from the system, by os.urandom, where the program gives none. Whoever knows it can
+choose ports that all lie in one bucket, and Table.config has it.
+
 What the library asks of a program is kept here at run time:
 
 - A seat is in one call at a time. The interpreter's lock is let go during a call, so a seat has a lock of its own. It

@@ -836,6 +836,30 @@ class Threads(unittest.TestCase):
             self.assertEqual(ended.pop().bindings, [(Port(number), [7])])
             self.assertEqual(ended, [])
 
+    def test_messages_pass_through_a_bind_and_a_find(self):
+        texts, stale = (ctypes.c_uint32 * 5000)(), []
+
+        def text(message):
+            return message ^ 0xDEADBEEF
+
+        def run(seat):
+            for message in range(len(texts)):
+                port = message % 64
+                if seat.caller == 0:
+                    texts[message] = text(message)
+                    while not seat.bind(port, message):
+                        time.sleep(0)
+                else:
+                    while seat.find(port) != message:
+                        time.sleep(0)
+                    stale.extend({texts[message]} - {text(message)})
+                    seat.release(port, message)
+                    seat.tidy()
+
+        with rht.Table(callers=2) as table:
+            self.run_all(table, run)
+            self.assertEqual(stale, [])
+
     def test_a_call_within_a_call_is_refused(self):
         with rht.Table() as table:
             (seat,) = table.seats

@@ -47,6 +47,21 @@
 //!
 //! Not claimed at all is that a call which waits comes to an end, and how fast any call is.
 //!
+//! # Memory order
+//!
+//! A [`Seat::find`] that answers an owner synchronizes with the bind or rebind that bound it: what the binding thread
+//! wrote before that call is visible after the find. So do [`Seat::all`], [`Seat::walk`] and a bind that answers
+//! [`Bind::Exists`]. A program may therefore fill a place, bind a port to the place's index, and read the place where
+//! a find answers that index, with no atomic and no lock of its own. The table knows nothing of the place: the program
+//! keeps it for as long as a thread may have found the index. A call that begins after another one has returned comes
+//! after it.
+//!
+//! Proved of this is that each call makes its operations on single words of the table, one after another, and that its
+//! answer is right in one order of all operations on these words. No clause speaks of other memory or of time. The
+//! rest follows if the operations are sequentially consistent, as the toolchain's kit says of its words; that is
+//! trusted. Tests pass 60,000 messages through a bind and a find and 20,000 through a rebind and a find, and none is
+//! read stale.
+//!
 //! # What stays with the program
 //!
 //! - No call is made in a signal handler, or in the forked child of a process with several threads. Safe Rust can

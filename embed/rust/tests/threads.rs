@@ -1,7 +1,7 @@
 //! Threads that share a table. What they are answered depends on no order, so each run has to end alike.
 
 use rht::{Bind, Config, Pair, Port, Rebind, Release, Seat, Table, Tidy, Work};
-use std::sync::atomic::{AtomicBool, Ordering};
+use std::sync::atomic::{AtomicBool, AtomicU32, Ordering};
 use std::thread;
 
 fn seats(config: Config) -> Vec<Seat> {
@@ -176,7 +176,7 @@ fn each_rebind_succeeds_once() {
 #[test]
 fn one_thread_gets_a_port() {
     let mut seats = seats(Config { callers: 4, ..Config::plain() });
-    let bound = std::sync::atomic::AtomicU32::new(0);
+    let bound = AtomicU32::new(0);
     in_threads(&mut seats, |thread, seat| {
         for number in 0..500 {
             loop {
@@ -215,4 +215,88 @@ fn a_seat_goes_from_thread_to_thread() {
         .expect("a thread");
     }
     assert_eq!(seat.count(), 4);
+}
+
+/// Places for messages. They are written and read with no order of their own.
+fn places(count: u32) -> Vec<AtomicU32> {
+    (0..count).map(|_| AtomicU32::new(0)).collect()
+}
+
+/// What a message says, which is never 0.
+fn text(message: u32) -> u32 {
+    message ^ 0xdead_beef
+}
+
+fn write(places: &[AtomicU32], message: u32) {
+    places[message as usize].store(text(message), Ordering::Relaxed);
+}
+
+fn is_stale(places: &[AtomicU32], message: u32) -> bool {
+    places[message as usize].load(Ordering::Relaxed) != text(message)
+}
+
+/// A thread writes each message in a place of its own, and binds a port to the number of the place. Another one looks
+/// for the port until it finds that number, and reads the place.
+#[test]
+fn messages_pass_through_a_bind_and_a_find() {
+    const MESSAGES: u32 = 60_000;
+    const PORTS: u32 = 64;
+    let mut seats = seats(Config { callers: 2, ..Config::plain() });
+    let places = places(MESSAGES);
+    let [sender, receiver] = &mut seats[..] else {
+        panic!("two seats");
+    };
+    let mut stale = 0;
+    thread::scope(|scope| {
+        scope.spawn(|| {
+            for message in 0..MESSAGES {
+                write(&places, message);
+                while !matches!(sender.bind(port(message % PORTS), message), Bind::Bound { .. }) {
+                    work(sender);
+                    thread::yield_now();
+                }
+            }
+        });
+        for message in 0..MESSAGES {
+            while receiver.find(port(message % PORTS)) != Some(message) {
+                thread::yield_now();
+            }
+            stale += u32::from(is_stale(&places, message));
+            release(receiver, port(message % PORTS), message);
+            tidy(receiver);
+        }
+    });
+    assert_eq!(stale, 0);
+}
+
+/// A thread gives one port an owner after another, each the number of the place of a message. Another one reads the
+/// message of each owner that it finds.
+#[test]
+fn messages_pass_through_a_rebind_and_a_find() {
+    const MESSAGES: u32 = 20_000;
+    let mut seats = seats(Config { callers: 2, ..Config::plain() });
+    let places = places(MESSAGES);
+    let [sender, receiver] = &mut seats[..] else {
+        panic!("two seats");
+    };
+    write(&places, 0);
+    bind(sender, port(1), 0);
+    let mut stale = 0;
+    thread::scope(|scope| {
+        let sending = scope.spawn(|| {
+            for message in 1..MESSAGES {
+                write(&places, message);
+                while sender.rebind(port(1), message - 1, message) != Rebind::Rebound {
+                    tidy(sender);
+                    thread::yield_now();
+                }
+            }
+        });
+        while !sending.is_finished() {
+            let message = receiver.find(port(1)).expect("it stays bound");
+            stale += u32::from(is_stale(&places, message));
+        }
+    });
+    assert_eq!(stale, 0);
+    assert_eq!(seats[0].find(port(1)), Some(MESSAGES - 1));
 }
