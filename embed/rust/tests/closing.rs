@@ -224,7 +224,7 @@ fn a_seat_closes_where_no_node_waits() {
     two.close().expect("it has taken none out");
 }
 
-/// Nothing is done by a close that is refused, so the tidying behind it has the node.
+/// Nothing is done by a close that is refused, so the tidying after it has the node.
 #[test]
 fn a_seat_does_not_close_while_a_node_waits() {
     let (mut one, mut two) = two_of_three_nodes();

@@ -124,31 +124,31 @@ impl Rounds {
 
 /// Of how many tables no call, one call and several calls were answered with what was bound. The tests here run one
 /// after another, since threads that share a processor hardly ever meet.
-fn told(tables: u32, ways: &[Way]) -> [u32; 3] {
+fn tally(tables: u32, ways: &[Way]) -> [u32; 3] {
     static ALONE: Mutex<()> = Mutex::new(());
     let _alone = ALONE.lock().unwrap_or_else(PoisonError::into_inner);
     let rounds = &Rounds::of(ways.len());
-    let mut told = [0; 3];
+    let mut tally = [0; 3];
     thread::scope(|scope| {
         for (place, &way) in ways.iter().enumerate() {
             scope.spawn(move || rounds.close(place, way, tables));
         }
         for round in 1..=tables {
-            told[rounds.table(round).min(2) as usize] += 1;
+            tally[rounds.table(round).min(2) as usize] += 1;
         }
     });
     assert_eq!(*rounds.wrong.lock().expect("no panic"), None);
-    told
+    tally
 }
 
 #[test]
 fn one_of_two_is_given_what_was_bound() {
-    assert_eq!(told(2_000, &[Way::CloseAll; 2]), [0, 2_000, 0]);
+    assert_eq!(tally(2_000, &[Way::CloseAll; 2]), [0, 2_000, 0]);
 }
 
 #[test]
 fn one_of_four_is_given_what_was_bound() {
-    assert_eq!(told(2_000, &[Way::CloseAll; 4]), [0, 2_000, 0]);
+    assert_eq!(tally(2_000, &[Way::CloseAll; 4]), [0, 2_000, 0]);
 }
 
 /// Where a seat that closes by itself is the last one, nobody is given what was bound.
@@ -161,7 +161,7 @@ fn at_most_one_is_given_what_was_bound() {
         &[Way::CloseAll, Way::CloseAll, Way::Close, Way::Drop],
     ];
     for ways in mixtures {
-        let [none, one, several] = told(500, ways);
+        let [none, one, several] = tally(500, ways);
         assert_eq!((none + one, several), (500, 0));
     }
 }
