@@ -29,7 +29,7 @@ typedef uint64_t u64;
 /* the operations between two looks at whether the time is over */
 #define STRETCH 128
 /* A thread that resizes gets this many seconds more to do so once to and fro, where other work keeps it from that. */
-#define SECONDS_MORE 10
+#define SECONDS_MORE 60
 /* An insert that is to be made again so often will never be taken. */
 #define PATIENCE ((u64)1 << 28)
 /* Keys from here on are never inserted; and those from here on are those of the thread beside the others. */
