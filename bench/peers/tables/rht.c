@@ -32,13 +32,13 @@ struct caller {
   rht_handle handle;
   struct caller *next;
   uint32_t released; /* since it last tidied */
-  uint32_t own;      /* the ports of the net OWN_NET that it has bound, to resize */
 } __attribute__((aligned(128)));
 
 struct callers {
   struct caller caller[HANDLES];
   struct caller *free;
   pthread_mutex_t lock;
+  uint32_t own; /* the ports of net 1 that are bound, to resize; one thread at a time does that */
 };
 
 static rht_port port_of(uint32_t key) { return (rht_port){.number = key}; }
@@ -167,21 +167,21 @@ static bool remove_key(void *table, void *seat, uint32_t key) {
   return true;
 }
 
-/* Binds a port of its own: whether there is a node for it. */
-static bool bind_own(struct caller *caller, bool *kick) {
+/* Binds a port more of net 1: whether there is a node for it. */
+static bool bind_own(struct callers *callers, struct caller *caller, bool *kick) {
   for (int i = 0; i < PATIENCE; i++)
-    if (bind_port(caller, own_port(caller->own), 1, kick) == TABLE_DONE) {
-      caller->own++;
+    if (bind_port(caller, own_port(callers->own), 1, kick) == TABLE_DONE) {
+      callers->own++;
       return true;
     }
   return false;
 }
 
-/* Releases a port of its own: whether there was one. */
-static bool release_own(struct caller *caller, bool *kick) {
+/* Releases the last port of net 1: whether there was one. */
+static bool release_own(struct callers *callers, struct caller *caller, bool *kick) {
   rht_reply reply = RHT_REPLY_INIT;
-  if (caller->own == 0) return false;
-  if (rht_release(&caller->handle, own_port(--caller->own), 1, &reply) != RHT_RELEASED) abort();
+  if (callers->own == 0) return false;
+  if (rht_release(&caller->handle, own_port(--callers->own), 1, &reply) != RHT_RELEASED) abort();
   *kick = reply.kick;
   released(caller);
   return true;
@@ -190,7 +190,7 @@ static bool release_own(struct caller *caller, bool *kick) {
 static bool resize(void *table, void *seat, bool larger) {
   bool kick = false;
   while (!kick)
-    if (larger ? !bind_own(seat, &kick) : !release_own(seat, &kick)) return false;
+    if (larger ? !bind_own(table, seat, &kick) : !release_own(table, seat, &kick)) return false;
   settle(table, seat);
   return true;
 }
