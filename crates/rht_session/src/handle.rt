@@ -230,7 +230,8 @@ impl Handle {
         ensures closed { IfOk result (λ _. IsBlank self.new × HadUntidied self.old 0) }
         ensures refused { IfErr result (λ refused. IsNotTidied refused self.old self.new) }
     {
-        if self.untidied()? > 0 {
+        let nodes = self.untidied()?;
+        if nodes > 0 {
             return Err(Refused::Waiting);
         }
         self.let_go(alloc);

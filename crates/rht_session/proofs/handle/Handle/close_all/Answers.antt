@@ -44,7 +44,8 @@ returns-in-Err-clause-why c =
     let handles = c.args.handles.now in
     let all = map (λ b. b.value) c.taken_out.result.items in
     let have = c.taken_out.ensures.taken in
-    why_kept handles all have (some_have handles all have (sym c.is_empty.ensures ∙ c.if-is_empty.false)) c.in-Err.why c.in-Err.ensures.why
+    let some = some_have handles all have (sym c.is_empty.ensures ∙ c.if-is_empty.false) in
+    why_kept handles all have some c.in-Err.field-0.why c.in-Err.ensures.why
 
 pub returns-in-Err-clause-fit : goal.returns-in-Err-clause-fit
 returns-in-Err-clause-fit c =
