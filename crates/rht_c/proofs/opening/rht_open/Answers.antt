@@ -24,7 +24,7 @@ returns-in-Ok c =
     let done = c.in-Ok.ensures in
     record {
       answer = Ok c.in-Ok.field-0;
-      told = c.told_opening.ensures;
+      told = c.told_opening-in-Ok.ensures;
       opened = subst (λ (config : Config). AreOpenedHandles config c.open.new.into) rounded done.opened;
       fit = done.fit;
       due = (
