@@ -204,7 +204,13 @@ fn mixed_closed(
     let mut table = None;
     for session in sessions {
         match Box::into_inner(session) {
-            Session::Mix(Shared { table: own, pass, mark }) => {
+            Session::Mix(
+                Shared {
+                    table: own,
+                    pass,
+                    mark,
+                },
+            ) => {
                 drop(mark);
                 table = Some(own);
                 passes.push_reserved(pass);
@@ -231,7 +237,13 @@ fn low_closed(
     let mut table = None;
     for session in sessions {
         match Box::into_inner(session) {
-            Session::Low(Shared { table: own, pass, mark }) => {
+            Session::Low(
+                Shared {
+                    table: own,
+                    pass,
+                    mark,
+                },
+            ) => {
                 drop(mark);
                 table = Some(own);
                 passes.push_reserved(pass);

@@ -28,4 +28,6 @@ pub use plain::{CClosed, CConfig, CCursor, CPair, CPort, CReply, NO_SPARE};
 pub use refused::{NotOpened, Refused};
 pub use session::Session;
 pub use shared::Shared;
-pub use telling::{told, told_closing, told_closing_all, told_closing_now, told_found, told_opening, told_whole};
+pub use telling::{
+    told, told_closing, told_closing_all, told_closing_now, told_found, told_opening, told_whole,
+};

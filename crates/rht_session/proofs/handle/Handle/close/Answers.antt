@@ -4,8 +4,7 @@ use Rattle.rht_session.proofs.handle.Handle.close.Goals as goal
 pub returns-then-nodes-gt0-clause-refused : goal.returns-then-nodes-gt0-clause-refused
 returns-then-nodes-gt0-clause-refused c =
     let had = c.in_ok-nodes.ensures.nodes in
-    let some = c.if-nodes-gt0.true in
-    (
+    let some = c.if-nodes-gt0.true in (
       record { session = had.0; had = sym c.untidied.ensures.same ∙ had.1; has = had.1; is = had.2 },
       omega (arith, some, had.3),
     )

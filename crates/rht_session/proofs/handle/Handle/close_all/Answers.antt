@@ -27,8 +27,7 @@ pub returns-in-Ok-closed-clause-closed : goal.returns-in-Ok-closed-clause-closed
 returns-in-Ok-closed-clause-closed c =
     let handles = c.args.handles.now in
     let all = map (λ b. b.value) c.taken_out.result.items in
-    let have = c.taken_out.ensures.taken in
-    (
+    let have = c.taken_out.ensures.taken in (
       all,
       some_have handles all have (sym c.is_empty.ensures ∙ c.if-is_empty.false),
       have,
