@@ -15,24 +15,28 @@ use std::thread::{Threads, join};
 /// How many tables two threads close.
 const TABLES: u32 = 2_000;
 
+/// Takes the binding of the port to owner 7 out.
+fn release(port: Port) -> Call {
+    Call::Release { port, owner: 7 }
+}
+
 #[test]
 fn nodes_that_are_not_tidied_are_given_up_by_a_closing_alone(rt: HostRuntime) -> Result<(), Fail> {
     let alloc = rt.alloc();
     let port = Port::plain(1);
-    let release = Call::Release { port, owner: 7 };
     let (mut first, mut second) = opened(alloc, SMALL)?;
     made(&mut first, bind(port, 7))?;
-    made(&mut first, release)?;
+    made(&mut first, release(port))?;
     assert_same(&rt, first.close(alloc), Err(Refused::Waiting));
     // nothing was done: it binds, and tidies what it has released
     made(&mut first, bind(port, 7))?;
     assert_same(&rt, first.tidy(), Ok(Reply::Clear { returned: 1 }));
     // one waits while the other handle is in a call, and one doesn't yet
-    made(&mut first, release)?;
+    made(&mut first, release(port))?;
     assert_same(&rt, second.begin(Call::All { port }), Ok(None));
     first.tidy().ok().ok_or("not tidied")?;
     made(&mut first, bind(port, 7))?;
-    made(&mut first, release)?;
+    made(&mut first, release(port))?;
     assert_same(&rt, first.close(alloc), Err(Refused::Waiting));
     assert_same(&rt, second.close(alloc), Err(Refused::InCall));
     assert_same(&rt, second.close_now(alloc), Err(Refused::InCall));
