@@ -11,7 +11,7 @@ use Rattle.rht_model.specs.declared.history.Call.TheVariants.{Work, Tidy}
 use Rattle.rht_reclaim.specs.GiveTableLaws.{Joined}
 use Rattle.rht_reclaim.specs.GiveTableLaws as returned
 use Rattle.rht_reclaim.specs.KeepLaws.{Found, kept_steps}
-use Rattle.rht_reclaim.specs.ReturnLaws.{AreOutside}
+use Rattle.rht_reclaim.specs.ReturnLaws.{AreOutside, AreSlotsSeen}
 use Rattle.rht_reclaim.specs.ReturnTables.{kept_load}
 use Rattle.rht_core.specs.declared.event.Event.{Event}
 use Rattle.rht_core.specs.Attached.{RetiresSlot}
@@ -21,18 +21,18 @@ use Rattle.rht_core.specs.Runs.{IsAdmitted}
 use Rattle.rht_core.specs.Traces.{Did, Traced, performed_of, traced_of}
 use Rattle.rht_core.specs.WorkCauses.{TakesWorkLock}
 
--- The call's first operation took the work lock. It has found the table in a slot retired, and has since found of each caller before `d`, in
--- order, that it has left its section. It has just loaded the section word kept for `d` in that slot, which is odd.
+-- The call's first operation took the work lock. Since then it has only gone through the slots before this one, in order and each once
+-- (`AreSlotsSeen`), found the table in this one retired, and found of each caller before `d`, in order, that it has left its section. It has
+-- just loaded the section word kept for `d` in that slot, which is odd.
 pub record AsksReader (g : Geometry) (d : ℕ) (before : List Did) : Type 0 where
   pub lock : Did
-  pub behind : List Did
-  pub first : before ≡ lock ∷ behind
   pub took : TakesWorkLock g lock
   pub slot : ℕ
   pub sooner : List Did
   pub state : Did
   pub since : List Did
-  pub split : before ≡ sooner ++ state ∷ since
+  pub split : before ≡ lock ∷ (sooner ++ state ∷ since)
+  pub seen : AreSlotsSeen g 0 slot (map performed_of sooner)
   pub retired : Loaded g (Slot slot StateWord) 2 state
   pub kept : ℕ
   pub odd : kept % 2 ≡ 1

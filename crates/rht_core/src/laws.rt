@@ -376,10 +376,12 @@ pub fn sections<M: Mix>()
 /// In every run no call but a tidying and a resizing operates on the section word of another caller, and these load it.
 /// So no other call waits for a reader by looking at its section.
 ///
-/// A resizing does so in two places. Either its first operation took the work lock, and it has found a table retired
-/// and since then, of each caller before this one and in order, that it has left its section; it has just loaded the
-/// section word kept for this one, which is odd. Or it has retired a table, and since then has kept the section words of
-/// the callers before this one, in order, and done nothing else.
+/// A resizing does so in two places. Either its first operation took the work lock, and since then it has gone through
+/// the slots before one, in order and each once, and done nothing else (`laws::returns_tables` of `rht_reclaim`). It has
+/// found the table in that one retired and then, of each caller before this one and in order, that it has left its
+/// section; it has just loaded the section word kept for this one, which is odd. So it looks at each word once for a
+/// slot, before it opens its own section. Or it has retired a table, and since then has kept the section words of the
+/// callers before this one, in order, and done nothing else.
 ///
 /// The law says nothing of locks, for which binds, releases and rebinds wait, nor of what a call makes of the words.
 pub fn awaited<M: Mix>()

@@ -406,7 +406,8 @@ module _ (M : Type 0) (mix : ℕ → ℕ → ℕ → ℕ) (env : Env) (events : 
         → HasTakenWork job steps → ChangesState g slot did → did.op ≡ Store (place_of g (Slot slot StateWord)) 0
         → ReturnsRetired g slot steps did
     returned job (by_returning returns) slot performs saw taken changed gives =
-        returns-free env mix performs.caller performs.words performs.ghost performs.whole steps did performs.found slot changed.slot_in gives
+        returns-free env mix performs.caller performs.words performs.ghost performs.whole steps saw.lock saw.sooner saw.split did performs.found slot
+        changed.slot_in gives
         (taken refl) returns.geometry returns.at (hard mix env refl performs) saw.of_slot performs.knows.knowing.means.making
 
     stated : (job : Job) (slot : ℕ) (performs : Performs mix env job did) → performs.words ≡ words_at did.index

@@ -103,7 +103,7 @@ module _ (env : Env) (c : ℕ) where
     pub split : steps ≡ lock ∷ sooner
     pub took : TakesWorkLock env.geometry lock
     pub so_far : IsPartOf env.geometry (map performed_of sooner) returns
-    pub of_slot : SlotSoFar env.geometry returns.at steps
+    pub of_slot : SlotSoFar env.geometry returns.at sooner
 
   -- or has given them back
   pub record HasReturned (steps : List Did) : Type 0 where

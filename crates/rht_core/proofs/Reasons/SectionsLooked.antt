@@ -1,7 +1,7 @@
 -- In every run an operation on another caller's section word is a tidying's, or a resizing's where it asks of a retired table, or keeps section words
 -- at a retiring. By what the job may look at (`InsideInRuns`) it is made in one of these states alone, and by what was seen in such a state the call
 -- has done what the law says.
-use Rattle.std.proofs.Common.{◌≡◌, ◌≢◌, ℕ, ◌<◌, Bool, false, List, map, take, drop, sym, ap, ◌∙◌, subst, inl, inr, arith}
+use Rattle.std.proofs.Common.{◌≡◌, ◌≢◌, ℕ, ◌<◌, Bool, false, List, ◌∷◌, map, take, drop, sym, ap, ◌∙◌, subst, inl, inr, arith}
 use Rattle.std.proofs.lemmas.List.{take-append-drop}
 use Rattle.rht_words.specs.declared.env.Env.{Env}
 use Rattle.rht_words.specs.declared.geometry.Geometry.{Geometry}
@@ -76,18 +76,17 @@ module _ (mix : ℕ → ℕ → ℕ → ℕ) (env : Env) (words_at : ℕ → Lis
         }),
       )
   looks over (works (working.Returning returns)) may (slot, kept, at) is saw =
-      let so_far = subst (λ state. SlotSoFar g state steps) at saw.of_slot in (
+      let so_far = subst (λ state. SlotSoFar g state saw.sooner) at saw.of_slot in (
         loads-this d (hard over (return_tables_plan_at returns.geometry returns.at) (no_work over may) is ∙ ap (return_tables_plan_at returns.geometry) at),
         inl (record {
           lock = saw.lock;
-          behind = saw.sooner;
-          first = saw.split;
           took = saw.took;
           slot = slot;
           sooner = so_far.sooner;
           state = so_far.state;
           since = so_far.since;
-          split = so_far.split;
+          split = saw.split ∙ ap (λ l. saw.lock ∷ l) so_far.split;
+          seen = so_far.seen;
           retired = so_far.found;
           kept = kept;
           odd = so_far.so.odd;

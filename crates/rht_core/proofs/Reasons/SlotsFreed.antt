@@ -1,6 +1,6 @@
 -- A resizing that gives back retired tables changes no word that says something of a table, and frees the slot of a table only once it has done
 -- with that what the giving back asks.
-use Rattle.std.proofs.Common.{◌≡◌, ℕ, ◌<◌, ◌≤◌, List, [], refl, sym, ap, ◌∙◌, subst, arith}
+use Rattle.std.proofs.Common.{◌≡◌, ℕ, ◌<◌, ◌≤◌, List, [], ◌∷◌, refl, sym, ap, ◌∙◌, subst, arith}
 use Rattle.rht_words.specs.declared.env.Env.{Env}
 use Rattle.rht_words.specs.declared.geometry.Geometry.{Geometry}
 use Rattle.rht_words.specs.declared.op.Op.{Op}
@@ -69,7 +69,8 @@ module _ (g : Geometry) (did : Did) (slot : ℕ) (changed : ChangesTable g slot 
 -- ---- the freeing of a slot
 
 module _ (env : Env) (mix : ℕ → ℕ → ℕ → ℕ) (c : ℕ) (words : List ℕ) (G : Ghost) (whole : Whole env mix (mem env mix words) G)
-    (steps : List Did) (did : Did) (found : did.old ≡ old_of words did.op) (slot : ℕ) (low : slot < 8)
+    (steps : List Did) (first : Did) (sooner : List Did) (split : steps ≡ first ∷ sooner)
+    (did : Did) (found : did.old ≡ old_of words did.op) (slot : ℕ) (low : slot < 8)
     (stores : did.op ≡ Store (place_of env.geometry (Slot slot StateWord)) 0) (lock : HasWorkLock env.geometry steps) where
   abbrev g : Geometry
   g = env.geometry
@@ -78,39 +79,39 @@ module _ (env : Env) (mix : ℕ → ℕ → ℕ → ℕ) (c : ℕ) (words : List
   model h s state = record { geometry = h; slot = s; at = state }
 
   freed : (h : Geometry) (s : ℕ) → did.op ≡ give_table_plan (model h s gives.FreeSlot)
-      → SlotSoFar g (at.Giving (model h s gives.FreeSlot)) steps → IsBack env mix c G s [] → ReturnsRetired g slot steps did
+      → SlotSoFar g (at.Giving (model h s gives.FreeSlot)) sooner → IsBack env mix c G s [] → ReturnsRetired g slot steps did
   freed h s is so_far back =
       let places : place_of g (Slot s StateWord) ≡ place_of g (Slot slot StateWord) = ap op_place (sym is ∙ stores) in
       let same : s ≡ slot = omega (arith, places) in
       let state = whole.slots.states slot low ∙ ap state_word (ap G.slot (sym same) ∙ back.back) in
-      subst (λ x. ReturnsRetired g x steps did) same (let of = slot-freed g steps did h s is so_far in record {
+      subst (λ x. ReturnsRetired g x steps did) same (let of = slot-freed g sooner did h s is so_far in record {
         lock = lock;
         frees = record {
           slot_in = subst (λ x. x < 8) (sym same) low;
           stores = is;
           found = found ∙ ap (old_of words) stores ∙ state;
         };
-        sooner = of.sooner;
+        sooner = first ∷ of.sooner;
         state = of.state;
         since = of.since;
-        split = of.split;
+        split = split ∙ ap (λ l. first ∷ l) of.split;
         found = of.found;
         given = of.given;
       })
 
   giving-frees : (h : Geometry) (s : ℕ) (state : GiveTableAt) → IsGivingOp state (give_table_plan_at h s state)
-      → did.op ≡ give_table_plan (model h s state) → SlotSoFar g (at.Giving (model h s state)) steps
+      → did.op ≡ give_table_plan (model h s state) → SlotSoFar g (at.Giving (model h s state)) sooner
       → MakingMeans env mix c (mem env mix words) G (made_giving s state) → ReturnsRetired g slot steps did
   giving-frees h s state (loads place load) is so_far means = absurd (let both = sym (is ∙ load) ∙ stores in cc)
   giving-frees h s state (behind high) is so_far means =
       let there : op_place (give_table_plan_at h s state) ≡ place_of g (Slot slot StateWord) = ap op_place (sym is ∙ stores) in
       absurd (omega (arith, there, high, low))
   giving-frees h s state (frees same) is so_far means =
-      subst (λ x. did.op ≡ give_table_plan (model h s x) → SlotSoFar g (at.Giving (model h s x)) steps
+      subst (λ x. did.op ≡ give_table_plan (model h s x) → SlotSoFar g (at.Giving (model h s x)) sooner
       → MakingMeans env mix c (mem env mix words) G (made_giving s x) → ReturnsRetired g slot steps did)
       (sym same) (freed h s) is so_far means
 
-  pub returns-free : (h : Geometry) (state : ReturnTablesAt) → did.op ≡ return_tables_plan_at h state → SlotSoFar g state steps
+  pub returns-free : (h : Geometry) (state : ReturnTablesAt) → did.op ≡ return_tables_plan_at h state → SlotSoFar g state sooner
       → MakingMeans env mix c (mem env mix words) G (made_returning state) → ReturnsRetired g slot steps did
   returns-free h (at.Giving give) is so_far means =
       giving-frees give.geometry give.slot give.at (giving_op give.geometry give.slot give.at) is so_far means

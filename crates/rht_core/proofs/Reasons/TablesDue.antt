@@ -83,7 +83,7 @@ module _ (env : Env) (c : ℕ) (words_at : ℕ → List ℕ) where
         split = ap (λ s. s ++ did ∷ []) none;
         took = record { tries = is; free = eqb-true did.old 0 t };
         so_far = returns-begin env.geometry;
-        of_slot = tt;
+        of_slot = refl;
       })
       (λ f. record {
         did = did;
@@ -112,11 +112,11 @@ module _ (env : Env) (c : ℕ) (words_at : ℕ → List ℕ) where
           ∙ sym (map-append performed_of saw.sooner (did ∷ []))
 
       -- with the slot at which it is it has done what its next state says
-      of_slot : NextSoFar env.geometry (return_tables_after_at returns.geometry returns.at did.old) (steps ++ did ∷ [])
+      of_slot : NextSoFar env.geometry (return_tables_after_at returns.geometry returns.at did.old) sooner
       of_slot =
-          subst (λ g. NextSoFar env.geometry (return_tables_after_at g returns.at did.old) (steps ++ did ∷ []))
+          subst (λ g. NextSoFar env.geometry (return_tables_after_at g returns.at did.old) sooner)
           (sym within.geometry_same)
-          (slot-goes env.geometry steps did returns.at within.at_in
+          (slot-goes env.geometry saw.sooner did returns.at within.at_in
           (is ∙ ap (λ g. return_tables_plan_at g returns.at) within.geometry_same) saw.of_slot)
 
       go : (next : Next (Unit {0})) → (return_tables_after returns did.old).1 ≡ next
@@ -130,7 +130,7 @@ module _ (env : Env) (c : ℕ) (words_at : ℕ → List ℕ) where
             subst (λ l. IsPartOf env.geometry l (return_tables_after returns did.old).0) are
             (returns-go env.geometry (map performed_of saw.sooner) returns did.old goes saw.so_far);
         of_slot =
-            subst (λ next. NextSoFar env.geometry ((return_tables_after_at returns.geometry returns.at did.old).0, next) (steps ++ did ∷ []))
+            subst (λ next. NextSoFar env.geometry ((return_tables_after_at returns.geometry returns.at did.old).0, next) sooner)
             goes of_slot;
       }
       go (Done tt) ends = record {
