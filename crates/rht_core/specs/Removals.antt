@@ -1,4 +1,4 @@
--- Removals are calls that took a binding out. A caller's tidyings hand them out in order, each at most once, and as many as nodes come back;
+-- Removals are calls that took a binding out. A caller's tidyings hand them out in order, each at most once, with the nodes that they took out;
 -- the caller's replies alone say which. A section that is open after that was opened after each of them had ended.
 use Rattle.std.specs.Prelude.{◌≡◌, ℕ, ◌<◌, ◌≤◌, true, List, [], ◌∷◌, ◌++◌, length, map, take, Some, if◌then◌else◌}
 use Rattle.std.specs.List.{Contains, flat_map, slice_get}
@@ -18,7 +18,7 @@ use Rattle.rht_core.specs.Reach.{IsReading}
 use Rattle.rht_core.specs.Runs.{World, local_of, run_of, IsAdmitted}
 use Rattle.rht_core.specs.Seen.{words_before}
 use Rattle.rht_core.specs.Sections.{IsInNoSection}
-use Rattle.rht_core.specs.Tidied.{batch_of}
+use Rattle.rht_core.specs.Tidied.{HasTakenOut, batch_of}
 use Rattle.rht_core.specs.Traces.{Past, traced_of, behind_call}
 
 -- ---- what is handed out
@@ -69,6 +69,14 @@ bindings_removed calls = removals_of (λ done. done.reply) (λ done. binding_tak
 abbrev pub calls_removing : List Past → Removals Past
 calls_removing calls = removals_of (λ past. past.done.reply) (λ past. if takes_out past.done.reply then past ∷ [] else []) calls
 
+-- With `words_at` for the words before each event: these removals took out these nodes, each the one at its place.
+abbrev pub TookInOrder : Geometry → (ℕ → List ℕ) → List Past → List ℕ → Type 0
+TookInOrder g words_at [] [] = Unit {0}
+TookInOrder g words_at (removal ∷ removals) (node ∷ nodes) =
+    HasTakenOut g words_at removal.done.call node removal.steps × TookInOrder g words_at removals nodes
+TookInOrder g words_at [] (node ∷ nodes) = ⊥
+TookInOrder g words_at (removal ∷ removals) [] = ⊥
+
 -- ---- sections
 
 -- With `words_at` for the words before each event: after the first `behind` events caller `d` is in its section, which it opened at event `at`.
@@ -91,6 +99,16 @@ module _ (M : Type 0) (mix : ℕ → ℕ → ℕ → ℕ) where
       → let removed = bindings_removed (w.books c).finished in
       (length removed.fresh ≡ length (batch_of w.core c).fresh) × (length removed.due ≡ length (batch_of w.core c).waiting)
 
+  -- The fresh removals of such a caller took out the fresh nodes of its batch, and those that are due the nodes that wait, each the one at its
+  -- place.
+  abbrev pub Paired : Type 0
+  Paired =
+      (env : Env) (events : List Event) (c : ℕ) → IsAdmitted events
+      → let w : World M = run_of mix env events in is_idle (local_of w.core c) ≡ true
+      → let removed = calls_removing ((traced_of {M = M} mix env events).traces c).past in
+      TookInOrder env.geometry (words_before M mix env events) removed.fresh (batch_of w.core c).fresh
+      × TookInOrder env.geometry (words_before M mix env events) removed.due (batch_of w.core c).waiting
+
   -- a tidying that was answered `Clear` handed out as many as it gave back nodes
   abbrev pub HandsOut : Type 0
   HandsOut =
@@ -108,12 +126,14 @@ module _ (M : Type 0) (mix : ℕ → ℕ → ℕ → ℕ) where
       bindings_removed (map (λ (past : Past). past.done) calls)
       ≡ record { fresh = flat_map binding_of removed.fresh; due = flat_map binding_of removed.due }
 
-  -- in every run a caller that is in its section after a tidying opened that after the end of each removal that the tidying handed out
+  -- in every run a caller that is in its section at a moment after a tidying, however much later, opened that after the end of each removal that
+  -- the tidying handed out
   abbrev pub Grace : Type 0
   Grace =
       (env : Env) (events : List Event) (c d : ℕ) → IsAdmitted events → d < env.geometry.callers
       → let ended = ((traced_of {M = M} mix env events).traces c).past in
       (i : ℕ) (tidying removal : Past) → slice_get ended i ≡ Some tidying
       → Contains (handed_by (calls_removing (take i ended)) tidying.done.reply) removal
-      → IsReading env.geometry (words_before M mix env events (behind_call tidying)) d
-      → (at : ℕ) × IsOpenSince env.geometry (words_before M mix env events) d at (behind_call tidying) × (behind_call removal ≤ at)
+      → (later : ℕ) → behind_call tidying ≤ later
+      → IsReading env.geometry (words_before M mix env events later) d
+      → (at : ℕ) × IsOpenSince env.geometry (words_before M mix env events) d at later × (behind_call removal ≤ at)

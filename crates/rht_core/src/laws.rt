@@ -20,7 +20,7 @@ ghost use Rattle.rht_core.specs.Refused.{Refused};
 ghost use Rattle.rht_core.specs.Tables.{Tables, NeverAgain};
 ghost use Rattle.rht_core.specs.RunHistories.{HasFittingHistory};
 ghost use Rattle.rht_core.specs.PlainRuns.{PlainRuns};
-ghost use Rattle.rht_core.specs.Removals.{Grace, Handed, HandsOut, AreRemoved};
+ghost use Rattle.rht_core.specs.Removals.{Grace, Handed, Paired, HandsOut, AreRemoved};
 ghost use Rattle.rht_core.specs.Sections.{Sections, OwnSections};
 ghost use Rattle.rht_core.specs.Shown.{Shown, ShownBound, ShownWhole};
 ghost use Rattle.rht_core.specs.ToldHistories.{HasToldHistory};
@@ -304,26 +304,28 @@ pub fn tidied<M: Mix>()
 /// was answered `Released` or `Rebound`; its binding is its port and owner, of a rebind the old one. A caller's
 /// removals keep the order of its calls. A tidying takes those that are due, or all fresh ones where none is: answered
 /// `Clear` it hands them out, and answered `Pending` they are due from then on. While the caller is in no call, as many
-/// removals are fresh as its batch has fresh nodes, and as many are due as nodes wait. A tidying that was answered
-/// `Clear` handed out as many as it says.
+/// removals are fresh as its batch has fresh nodes, and as many are due as nodes wait. And they go together in order: at
+/// one of its operations each fresh removal took the fresh node at its place out of the list of its port, and so did
+/// each that is due the node that waits. A tidying that was answered `Clear` handed out as many as it says.
 ///
 /// The replies of the caller's calls alone say which these are, and the bindings handed out are those of the removals
 /// handed out, in order. A removal hands out a binding: its owner may be bound still, at another port, again, or in a
 /// list twice. Whose sections are open then is for `grace`.
 pub fn handed<M: Mix>()
     ensures as_many { Handed M M.mix_of }
+    ensures nodes { Paired M M.mix_of }
     ensures out { HandsOut M M.mix_of }
     ensures bindings { AreRemoved M M.mix_of }
 {}
 
-/// In every run, of a tidying that was answered `Clear`: a caller that is in its read section after the tidying's last
-/// operation opened it after the end of each removal that the tidying handed out (`handed`). Before that its section
-/// word was even, and since then it is the same. So whatever such a caller has found in this section it found after
-/// these removals.
+/// In every run, of a tidying that was answered `Clear`: a caller that is in its read section at any moment after the
+/// tidying's last operation opened it after the end of each removal that the tidying handed out (`handed`). Before that
+/// its section word was even, and since then up to that moment it is the same. So whatever such a caller has found in
+/// this section it found after these removals.
 ///
 /// The law speaks of section words; what a caller could reach is for `safe`. A call's answer comes when its section is
-/// closed, so nothing is said of who uses one. Nor does the law speak of sections opened later, of bindings made again
-/// meanwhile, or say that a tidying is ever answered `Clear`.
+/// closed, so nothing is said of who uses one. Nor does the law speak of bindings made again meanwhile, or say that a
+/// tidying is ever answered `Clear`.
 pub fn grace<M: Mix>()
     ensures { Grace M M.mix_of }
 {}

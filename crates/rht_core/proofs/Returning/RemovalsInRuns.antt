@@ -1,5 +1,5 @@
--- In every run what a tidying hands out is over for each caller: one that is in its section then has opened that behind the end of each removal that
--- is handed out. And there are as many removals as nodes.
+-- In every run what a tidying hands out is over for each caller: one that is in its section then or later has opened that behind the end of each
+-- removal that is handed out. And there are as many removals as nodes.
 -- It goes along the calls that have ended, from the first one on, by what is so behind each (`RemovalsWait`).
 use Rattle.std.proofs.Common.{◌≡◌, ◌≢◌, ℕ, zero, suc, List, [], ◌∷◌, length, map, take, Some, refl, sym, ◌∙◌, ap, subst, inl, arith}
 use Rattle.std.specs.List.{AllByRecursion, slice_get}
@@ -23,7 +23,7 @@ use Rattle.rht_core.specs.Tidied.{KeepsBatch, HasTidied, batch_of, batch_before}
 use Rattle.rht_core.specs.Traces.{Past, traced_of, behind_call, AreInOrder}
 use Rattle.rht_core.proofs.Events.BatchesInRuns.{sound_before}
 use Rattle.rht_core.proofs.Returning.RemovalsWait.{IsRight, AreMany, many-behind, many-handed, WaitSo, IsOverSince, few, taken_by, wait-behind, over-handed}
-use Rattle.rht_core.proofs.Returning.SectionsSince.{opened_since}
+use Rattle.rht_core.proofs.Returning.SectionsSince.{was_even-later, opened_since}
 use Rattle.rht_core.proofs.Tracing.KeptBatches.{AreJoined, last_left, kept, joined, left_now}
 use Rattle.rht_core.proofs.Tracing.RepliesInRuns.{replies}
 use Rattle.rht_core.proofs.Tracing.TidiesInRuns.{tidied}
@@ -152,7 +152,7 @@ module _ (M : Type 0) (mix : ℕ → ℕ → ℕ → ℕ) (env : Env) (events : 
     }
 
 pub grace : (M : Type 0) (mix : ℕ → ℕ → ℕ → ℕ) → Grace M mix
-grace M mix env events c d admitted below i tidying removal there handed reads =
+grace M mix env events c d admitted below i tidying removal there handed later order reads =
     let all =
     over-all M mix env events c admitted no_removals (batch_new env.geometry) 0 (ended M mix env events c)
     (ended-right M mix env events c admitted) (joined M mix env events c admitted) (at_events M mix env events admitted c).in_order
@@ -160,8 +160,9 @@ grace M mix env events c d admitted below i tidying removal there handed reads =
     let over =
     subst (λ r. IsOverSince M mix env events c admitted r (behind_call tidying)) handed.2
     (All-from_recursion (λ r. IsOverSince M mix env events c admitted r (behind_call tidying)) _ all handed.0 removal handed.1) in
-    let since =
-    opened_since M mix env events admitted d (few M mix env events c admitted d below) over.from (behind_call tidying) (over.left d below) reads in
+    let low = few M mix env events c admitted d below in
+    let was = was_even-later M mix env events admitted d low over.from (behind_call tidying) later order (over.left d below) in
+    let since = opened_since M mix env events admitted d low over.from later was reads in
     (since.0, since.1, let behind = over.behind in let from = since.2 in omega (arith, behind, from))
 
 pub handed : (M : Type 0) (mix : ℕ → ℕ → ℕ → ℕ) → Handed M mix

@@ -33,15 +33,15 @@ use Rattle.rht_core.proofs.Tracing.StepsInTraces.{LiesWithin, from-behind, risin
 
 -- ---- replies of tidyings
 
-asked-clear : (call : Call) (count : ℕ) → IsReplyTo call (Clear count) → call ≡ Tidy
+pub asked-clear : (call : Call) (count : ℕ) → IsReplyTo call (Clear count) → call ≡ Tidy
 asked-clear Tidy count is = refl
 asked-clear _ count is = absurd is
 
-asked-pending : (call : Call) (caller section : ℕ) → IsReplyTo call (Pending caller section) → call ≡ Tidy
+pub asked-pending : (call : Call) (caller section : ℕ) → IsReplyTo call (Pending caller section) → call ≡ Tidy
 asked-pending Tidy caller section is = refl
 asked-pending _ caller section is = absurd is
 
-asked-tidy : (call : Call) (reply : Reply) → IsReplyTo call reply → call ≡ Tidy → IsTidyReply reply
+pub asked-tidy : (call : Call) (reply : Reply) → IsReplyTo call reply → call ≡ Tidy → IsTidyReply reply
 asked-tidy call reply is asked = subst (λ other. IsReplyTo other reply) asked is
 
 -- ---- what is due, by how much waits
