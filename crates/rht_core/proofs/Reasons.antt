@@ -123,3 +123,7 @@ pub mod RetiredStay
 pub mod ReturnedSlots
 -- at whose section words calls look
 pub mod SectionsLooked
+-- that no search for a free node makes an operation twice
+pub mod NodesLooked
+-- and how calls look for one, and who is on the map of pages
+pub mod SearchesMade

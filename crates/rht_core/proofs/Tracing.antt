@@ -30,5 +30,7 @@ pub mod TidiesInRuns
 pub mod KeptBatches
 -- the operations of walks are those of their machine
 pub mod WalksInRuns
+-- and what each operation keeps of the ones before
+pub mod EachCall
 -- and what of jobs where something else is kept
 pub mod JobsBeside

@@ -58,6 +58,8 @@ pub mod PlainRuns
 pub mod Counts
 -- how many calls took a node
 pub mod NodesUsed
+-- how calls look for one, and which calls are on the maps
+pub mod Searches
 -- the owners that a listing lists, and those that it loaded
 pub mod ListedOwners
 -- histories whose entries carry the numbers of events

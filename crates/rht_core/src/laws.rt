@@ -21,6 +21,7 @@ ghost use Rattle.rht_core.specs.Tables.{Tables, NeverAgain};
 ghost use Rattle.rht_core.specs.RunHistories.{HasFittingHistory};
 ghost use Rattle.rht_core.specs.PlainRuns.{PlainRuns};
 ghost use Rattle.rht_core.specs.Removals.{Grace, Handed, Paired, HandsOut, AreRemoved};
+ghost use Rattle.rht_core.specs.Searches.{Searches, PagesLeft};
 ghost use Rattle.rht_core.specs.Sections.{Sections, OwnSections};
 ghost use Rattle.rht_core.specs.Shown.{Shown, ShownBound, ShownWhole};
 ghost use Rattle.rht_core.specs.ToldHistories.{HasToldHistory};
@@ -107,6 +108,18 @@ pub fn all_steps_traced<M: Mix>()
 /// its word. It doesn't say that nobody else has that node, nor whether it was used before and given back.
 pub fn taken_alone<M: Mix>()
     ensures { TakenAlone M M.mix_of }
+{}
+
+/// In every run a bind and a rebind, ended or in progress, load each word of the map of nodes at most once, and try to
+/// take each node at most once. To try is to clear the node's bit, whatever is found there. What else they do on the map
+/// is to set a node's bit. So neither looks at the map again to wait for a node. A tidying only sets bits of nodes there,
+/// and no other call is on the map.
+///
+/// No call but a bind and a `Work` operates on a word of the map of pages. So no other takes a page or gives one back.
+/// The law doesn't say whose bits are set.
+pub fn searches<M: Mix>()
+    ensures nodes { Searches M M.mix_of }
+    ensures pages { PagesLeft M M.mix_of }
 {}
 
 /// In every run each call that has ended has the cause of its reply, by a table of calls and replies over the call's

@@ -4,7 +4,7 @@
 -- has raised no count, a release and a resizing what they need, and a rebind what it sees while it takes a
 -- node. So when a call answers, all that its reply has to show was seen; and each of its operations was
 -- recorded at its event.
-use Rattle.std.proofs.Common.{◌≡◌, ℕ, ◌+◌, List, [], ◌∷◌, ◌++◌, refl, arith, Option}
+use Rattle.std.proofs.Common.{◌≡◌, ℕ, ◌+◌, List, [], ◌∷◌, ◌++◌, refl, Option}
 use Rattle.std.specs.Prelude.{IfSome}
 use Rattle.std.specs.List.{AllByRecursion}
 use Rattle.std.proofs.lemmas.List.Quantifiers.{Any-push}
@@ -21,6 +21,7 @@ use Rattle.rht_find.specs.Find.{after_at as find_after_at}
 use Rattle.rht_bind.specs.Bind.{after_at}
 use Rattle.rht_release.specs.All as all
 use Rattle.rht_words.specs.Ways.{start_in}
+use Rattle.rht_words.proofs.WordsBegun.{start_in-within}
 use Rattle.rht_arena.proofs.NodesSeen.{SawPassed-none}
 use Rattle.rht_core.specs.declared.event.Event.{Event}
 use Rattle.rht_grace.specs.Batch.{BatchModel}
@@ -156,9 +157,11 @@ module _ (M : Type 0) (mix : ℕ → ℕ → ℕ → ℕ) (env : Env) (events : 
 
   -- who has only begun has come past no node
   first-saw : (call : Call) (batch : Option BatchModel) (start : ℕ) → IfSome (first_job env batch call start) (λ job. JobSaw env c words_at mix job [])
-  first-saw (Bind port owner once) batch start = (SawPassed-none env.geometry (start_in env start), (tt, tt))
+  first-saw (Bind port owner once) batch start =
+      (record { seen = SawPassed-none env.geometry (start_in env start); begun = start_in-within env start; earlier = tt }, (tt, tt))
   first-saw (Release port owner) batch start = (tt, tt)
-  first-saw (Rebind port owner new) batch start = SawPassed-none env.geometry (start_in env start)
+  first-saw (Rebind port owner new) batch start =
+      record { seen = SawPassed-none env.geometry (start_in env start); begun = start_in-within env start; earlier = tt }
   first-saw Work batch start = refl
   first-saw Tidy batch start = first_tidy-so (λ job. JobSaw env c words_at mix job []) batch (first_tidy-saw env.geometry)
   first-saw _ batch start = tt

@@ -3,9 +3,9 @@
 use Rattle.std.specs.Prelude.{false}
 use Rattle.rht_model.specs.declared.history.Call.TheVariants.{Work}
 use Rattle.rht_core.proofs.Events.StepsOfCallers.{MayHoldAs, hard-plan}
-use Rattle.rht_callers.specs.Locals.{soft, may_hold}
+use Rattle.rht_callers.specs.Locals.{may_hold}
 use Rattle.rht_ghost.proofs.Pieces.HeldSections.{is_in}
-use Rattle.rht_core.proofs.Machines.HeldSteps.{no_work, soft-none}
+use Rattle.rht_core.proofs.Machines.HeldSteps.{no_work}
 use Rattle.std.proofs.Common.{◌≡◌, ℕ, ◌+◌, ◌/◌, ◌<◌, ◌⊎◌, true, List, take, drop, slice_index, Option, Some, refl, sym, ◌∙◌, ap, subst, inl, inr, arith}
 use Rattle.std.proofs.lemmas.Bool.{cases_lt}
 use Rattle.std.proofs.lemmas.List.{take-append-drop}
@@ -14,7 +14,7 @@ use Rattle.rht_words.specs.declared.env.Env.{Env}
 use Rattle.rht_words.specs.declared.geometry.Geometry.{Geometry}
 use Rattle.rht_words.specs.Standing.{Standing}
 use Rattle.rht_words.specs.Operations.{op_place}
-use Rattle.rht_words.specs.Places.{Address, CurrentTable, PortCount, Slot, SlotWord, ShapeWord, SeedWord, FutureWord, SerialWord, StateWord, LoadedSection, IsSlotWord, Node, PageWord, Section, NodeMap, IsAddress, place_of}
+use Rattle.rht_words.specs.Places.{Address, CurrentTable, PortCount, Slot, SlotWord, ShapeWord, SeedWord, FutureWord, SerialWord, StateWord, LoadedSection, IsSlotWord, Node, PageWord, Section, NodeMap, PageMap, map_words, IsAddress, place_of}
 use Rattle.rht_words.specs.TableWords.{IsTableWord}
 use Rattle.rht_words.proofs.EachElement.{AllByRecursion-cut}
 use Rattle.rht_words.proofs.PlacesApart.{place_of-apart}
@@ -38,7 +38,7 @@ use Rattle.rht_core.specs.declared.event.Event.{Event}
 use Rattle.rht_core.specs.Jobs.{Job, finds, binds, lists, releases, rebinds, works, tidies, walks, counts, job_of, job_plan, held_of}
 use Rattle.rht_core.specs.Reach.{Thing, TableIn, PageAt, NodeAt, CouldReach, ReachesPage, at_table, at_node, at_listed, in_chain, IsReading, IsOwnNode, IsOwnSlot, IsWithin, MayTakeDown, LoadsRetiredShape, WithdrawsEntry, Inside}
 use Rattle.rht_core.specs.Laws.{IsRecorded}
-use Rattle.rht_core.specs.Runs.{Core, World, local_of, run_of, IsAdmitted, IsAdmittedEvent}
+use Rattle.rht_core.specs.Runs.{Core, World, local_of, planned_in, run_of, IsAdmitted, IsAdmittedEvent}
 use Rattle.rht_core.specs.Sections.{IsInNoSection}
 use Rattle.rht_core.specs.Standings.{standing, standing_of, standing_with}
 use Rattle.rht_core.specs.Traces.{Did, Traced, traced_of}
@@ -57,11 +57,11 @@ use Rattle.rht_ghost.proofs.Theory.Steps.{mem}
 use Rattle.rht_ghost.proofs.Theory.Wholes.{Whole}
 use Rattle.rht_core.proofs.Returning.MetInRuns.{Met, has_met, comes_next, open_now, outside_now, outside_next}
 use Rattle.rht_core.proofs.Returning.Operating.{PageThere, Lies, Allowed, nothing_own, May}
-use Rattle.rht_core.proofs.Returning.OperatingBinds.{bind_lies}
+use Rattle.rht_core.proofs.Returning.OperatingBinds.{on_nodes_of_bind, bind_lies}
 use Rattle.rht_walk.specs.Walk as walk
 use Rattle.rht_core.proofs.Returning.WalkWays.{walk_lies}
 use Rattle.rht_core.proofs.Returning.OperatingFinds.{find_lies}
-use Rattle.rht_core.proofs.Returning.OperatingReleases.{all_lies, release_lies, rebind_lies}
+use Rattle.rht_core.proofs.Returning.OperatingReleases.{all_lies, release_lies, on_nodes_of_rebind, rebind_lies}
 use Rattle.rht_core.proofs.Returning.OperatingWays.{AllowedOf}
 use Rattle.rht_core.proofs.Returning.OperatingWorks.{near_of_work, work_lies}
 use Rattle.rht_core.proofs.Returning.OperatingReturns.{LoadsShape, TakesEntry, return_lies}
@@ -98,7 +98,26 @@ near_of c (tidies batch state) d = Unit {0}
 near_of c (works state) d = near_of_work c state d
 near_of c _ d = d ≡ c
 
+-- which call may be on the map of nodes: a bind and a rebind where they look for one or give theirs back, and a tidying
+abbrev pub on_nodes_of : Job → Type 0
+on_nodes_of (binds port owner once state) = on_nodes_of_bind state
+on_nodes_of (rebinds port owner new state) = on_nodes_of_rebind state
+on_nodes_of (tidies batch state) = Unit {0}
+on_nodes_of _ = ⊥
+
+-- and on that of pages: a bind and a resizing
+abbrev pub on_pages_of : Job → Type 0
+on_pages_of (binds port owner once state) = Unit {0}
+on_pages_of (works state) = Unit {0}
+on_pages_of _ = ⊥
+
 module _ (env : Env) (mix : ℕ → ℕ → ℕ → ℕ) (L : Type 0) where
+  -- it may be on a map
+  pub record IsOnMap (So : Job → Type 0) (core : Core L) (c : ℕ) : Type 0 where
+    pub job : Job
+    pub does : job_of (local_of core c).doing ≡ Some job
+    pub may : So job
+
   -- it may look at this one's
   pub record IsNear (core : Core L) (c d : ℕ) : Type 0 where
     pub job : Job
@@ -118,6 +137,8 @@ module _ (env : Env) (mix : ℕ → ℕ → ℕ → ℕ) (L : Type 0) where
     Asked (Node node word) = IsOwnNode g core c node ⊎ IsWithin g core c (NodeAt node)
     Asked (PageWord index) = IsWithin g core c (PageAt (index / 64)) ⊎ WithdrawsEntry g core c index did
     Asked (Section d) = IsNear core c d
+    Asked (NodeMap index) = IsOnMap on_nodes_of core c
+    Asked (PageMap index) = IsOnMap on_pages_of core c
     Asked _ = Unit {0}
 
     record IsAsked : Type 0 where
@@ -131,7 +152,8 @@ module _ (env : Env) (mix : ℕ → ℕ → ℕ → ℕ) (L : Type 0) where
         (G : Ghost) (whole : Whole env mix (mem env mix core.words) G) (Own : Allowed)
         (own_node : (node : ℕ) → node < env.geometry.nodes → Own.own (NodeAt node) → IsOwnNode g core c node)
         (own_slot : (slot : ℕ) → slot < 8 → Own.own (TableIn slot) → IsOwnSlot g core c slot)
-        (own_section : (d : ℕ) → Own.near d → IsNear core c d) where
+        (own_section : (d : ℕ) → Own.near d → IsNear core c d)
+        (own_nodes : Own.nodes → IsOnMap on_nodes_of core c) (own_pages : Own.pages → IsOnMap on_pages_of core c) where
       stands : standing core c ≡ standing_of job
       stands = ap standing_with does
 
@@ -159,6 +181,8 @@ module _ (env : Env) (mix : ℕ → ℕ → ℕ → ℕ) (L : Type 0) where
         reaches = could (PageAt (index / 64)) (page_reached env mix core.words G whole (standing_of job) (index / 64) may.1);
       })
       asked_of (Section d) there may = own_section d may
+      asked_of (NodeMap index) there may = own_nodes may
+      asked_of (PageMap index) there may = own_pages may
       asked_of _ there may = tt
 
       is_asked : (op : Op) → did.op ≡ op → Lies env mix core.words G (held_of job) (standing_of job) Own op → IsAsked
@@ -213,15 +237,19 @@ module _ (env : Env) (mix : ℕ → ℕ → ℕ → ℕ) (L : Type 0) where
       abbrev whole : Whole env mix (mem env mix core.words) G
       whole = met.placed.inv.whole
 
+      -- what a job's call may be on
+      abbrev Own_of : Job → Allowed
+      Own_of job = AllowedOf (held_of job) G c (near_of c job) (on_nodes_of job) (on_pages_of job)
+
       module _ (job : Job) (does : job_of (local_of core c).doing ≡ Some job) where
         reads : (held_of job).section ≡ true → IsReading g core.words c
         reads = open_now env mix L events admitted c low job does
 
         -- by what its call has taken
-        with_own : (op : Op) → did.op ≡ op → Lies env mix core.words G (held_of job) (standing_of job) (AllowedOf (held_of job) G c (near_of c job)) op
+        with_own : (op : Op) → did.op ≡ op → Lies env mix core.words G (held_of job) (standing_of job) (Own_of job) op
             → IsAsked core c did
         with_own =
-            is_asked core c did job does reads G whole (AllowedOf (held_of job) G c (near_of c job))
+            is_asked core c did job does reads G whole (Own_of job)
             (λ node l own. record {
               job = job;
               does = does;
@@ -240,6 +268,8 @@ module _ (env : Env) (mix : ℕ → ℕ → ℕ → ℕ) (L : Type 0) where
               apart = nobody env mix L events core met c (TableIn slot) (ap slot_holder own.1);
             })
             (λ d near. record { job = job; does = does; near = near })
+            (λ may. record { job = job; does = does; may = may })
+            (λ may. record { job = job; does = does; may = may })
 
       few_callers : (caller : ℕ) → caller < g.callers → caller < 16
       few_callers caller there = let callers = g.within.callers_within in omega (arith, there, callers.1)
@@ -253,7 +283,7 @@ module _ (env : Env) (mix : ℕ → ℕ → ℕ → ℕ) (L : Type 0) where
           record { address = Section caller; there = few_callers caller within.at_in; on = ap op_place is; asked = record { job = _; does = does; near = tt } }
       tidy_asked batch (tidy_at.Giving index) does is within =
           let low = waiting_low g batch (tidy_at.Giving index) index within in
-          record { address = NodeMap (slice_index batch.waiting index / 64); there = omega (arith, low); on = ap op_place is; asked = tt }
+          record { address = NodeMap (slice_index batch.waiting index / 64); there = omega (arith, low); on = ap op_place is; asked = record { job = _; does = does; may = tt } }
 
       -- a worker that gives tables back is in no section, and nobody could reach the table that it takes down
       module _ (returns : ReturnTablesModel) (does : job_of (local_of core c).doing ≡ Some (works (working.Returning returns)))
@@ -315,7 +345,7 @@ module _ (env : Env) (mix : ℕ → ℕ → ℕ → ℕ) (L : Type 0) where
         returning_asked within tied =
             let job = works (working.Returning returns) in
             let h = held_of job in
-            elim (return_lies env mix core.words G whole c h (standing_of job) (AllowedOf h G c (near_of c job)) returns (λ slot caller kept is. (slot, kept, is)) within knows tied) [
+            elim (return_lies env mix core.words G whole c h (standing_of job) (Own_of job) tt returns (λ slot caller kept is. (slot, kept, is)) within knows tied) [
               | inl lies ↦ with_own job does _ is lies
               | inr taken ↦ elim taken [ inl shape ↦ shape_asked shape | inr entry ↦ entry_asked entry ]
             ]
@@ -332,7 +362,7 @@ module _ (env : Env) (mix : ℕ → ℕ → ℕ → ℕ) (L : Type 0) where
           let is = find_so c low port state does within in
           is_asked core c did (finds port state) does (reads (finds port state) does) is.ghost is.whole (nothing_own c)
           (λ node l own. absurd own) (λ slot l own. absurd own)
-          (λ d near. record { job = finds port state; does = does; near = near }) (find.plan_at env c state) planned is.lies
+          (λ d near. record { job = finds port state; does = does; near = near }) (λ none. absurd none) (λ none. absurd none) (find.plan_at env c state) planned is.lies
       job_asked (binds port owner once state) does planned within knows tied =
           with_own (binds port owner once state) does _ planned
           (bind_lies env mix port owner once core.words G whole c low state within.at_in
@@ -353,9 +383,35 @@ module _ (env : Env) (mix : ℕ → ℕ → ℕ → ℕ) (L : Type 0) where
       job_asked (walks from limit room state) does planned within knows tied =
           let job = walks from limit room state in
           is_asked core c did job does (reads job does) G whole (nothing_own c) (λ node l own. absurd own) (λ slot l own. absurd own)
-          (λ d near. record { job = job; does = does; near = near })
+          (λ d near. record { job = job; does = does; near = near }) (λ none. absurd none) (λ none. absurd none)
           (walk.plan_at env.geometry c state) planned (walk_lies env mix core.words G whole room c low state within tied)
       job_asked counts does planned within knows tied = record { address = PortCount; there = tt; on = ap op_place planned; asked = tt }
+
+-- behind these events what is asked of an operation on this word is so
+asked-now : (L : Type 0) (mix : ℕ → ℕ → ℕ → ℕ) (env : Env) (before : List Event) (c : ℕ) (did : Did) → IsAdmitted before
+    → planned_in (run_of {M = L} mix env before).core c ≡ Some did.op
+    → (a : Address) → IsAddress env.geometry a → op_place did.op ≡ place_of env.geometry a
+    → Asked env mix L (run_of {M = L} mix env before).core c did a
+asked-now L mix env before c did first planned a there same =
+    let core : Core L = (run_of mix env before).core in
+    let met = has_met env mix L before first in
+    let placed = met.placed in
+    let of = step_of env mix L core placed.ghost c did.op placed.all placed.inv planned in
+    let tied = subst (tied_with env mix placed.ghost) of.is (met.each c of.low).tied in
+    let is = job_asked env mix L before first met c of.few did of.job of.is (hard-plan env mix L of (placed.inv.rests c)) of.within of.knows tied in
+    let on : op_place did.op ≡ place_of env.geometry is.address = is.on in
+    subst (Asked env mix L core c did) (place_of-apart env.geometry is.address a is.there there (sym on ∙ same)) is.asked
+
+-- so it is of one on a word of a map
+pub on_nodes-now : (L : Type 0) (mix : ℕ → ℕ → ℕ → ℕ) (env : Env) (before : List Event) (c index : ℕ) (did : Did) → IsAdmitted before
+    → planned_in (run_of {M = L} mix env before).core c ≡ Some did.op → index < map_words env.geometry.nodes
+    → op_place did.op ≡ place_of env.geometry (NodeMap index) → IsOnMap env mix L on_nodes_of (run_of {M = L} mix env before).core c
+on_nodes-now L mix env before c index did first planned low same = asked-now L mix env before c did first planned (NodeMap index) low same
+
+pub on_pages-now : (L : Type 0) (mix : ℕ → ℕ → ℕ → ℕ) (env : Env) (before : List Event) (c index : ℕ) (did : Did) → IsAdmitted before
+    → planned_in (run_of {M = L} mix env before).core c ≡ Some did.op → index < map_words env.geometry.pages
+    → op_place did.op ≡ place_of env.geometry (PageMap index) → IsOnMap env mix L on_pages_of (run_of {M = L} mix env before).core c
+on_pages-now L mix env before c index did first planned low same = asked-now L mix env before c did first planned (PageMap index) low same
 
 -- in every run what is asked of an operation on this word is so
 asked-at : (L : Type 0) (mix : ℕ → ℕ → ℕ → ℕ) (env : Env) (events : List Event) (c : ℕ) (did : Did) → IsAdmitted events
@@ -365,14 +421,7 @@ asked-at L mix env events c did admitted recorded a there same =
     let before = take did.index events in
     let first = (AllByRecursion-cut IsAdmittedEvent before (drop did.index events)
     (subst IsAdmitted (sym (take-append-drop did.index events)) admitted)).0 in
-    let core : Core L = (run_of mix env before).core in
-    let met = has_met env mix L before first in
-    let placed = met.placed in
-    let of = step_of env mix L core placed.ghost c did.op placed.all placed.inv recorded.plan in
-    let tied = subst (tied_with env mix placed.ghost) of.is (met.each c of.low).tied in
-    let is = job_asked env mix L before first met c of.few did of.job of.is (hard-plan env mix L of (placed.inv.rests c)) of.within of.knows tied in
-    let on : op_place did.op ≡ place_of env.geometry is.address = is.on in
-    subst (Asked env mix L core c did) (place_of-apart env.geometry is.address a is.there there (sym on ∙ same)) is.asked
+    asked-now L mix env before c did first recorded.plan a there same
 
 -- so it is of one on a section word
 pub near_at : (L : Type 0) (mix : ℕ → ℕ → ℕ → ℕ) (env : Env) (events : List Event) (c d : ℕ) (did : Did) → IsAdmitted events

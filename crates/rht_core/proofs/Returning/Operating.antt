@@ -73,14 +73,16 @@ pub record EntryThere (env : Env) (words : List ℕ) (G : Ghost) (at : Standing)
   pub open_in : IsOpenIn env G table entry
   pub there : ReachesTable env.geometry words at (G.table table).slot
 
--- what a call has of its own, and whose section words it may look at
+-- what a call has of its own, whose section words it may look at, and whether it may be on a word of the map of nodes, or of that of pages
 pub record Allowed : Type 1 where
   pub own : Thing → Type 0
   pub near : ℕ → Type 0
+  pub nodes : Type 0
+  pub pages : Type 0
 
--- nothing, and its own caller's
+-- nothing, its own caller's, and no map
 abbrev pub nothing_own : ℕ → Allowed
-nothing_own c = record { own = λ thing. ⊥; near = λ d. d ≡ c }
+nothing_own c = record { own = λ thing. ⊥; near = λ d. d ≡ c; nodes = ⊥; pages = ⊥ }
 
 module _ (env : Env) (mix : ℕ → ℕ → ℕ → ℕ) (words : List ℕ) (G : Ghost) (h : Held Answer) (at : Standing) (Own : Allowed) where
   abbrev g : Geometry
@@ -97,6 +99,8 @@ module _ (env : Env) (mix : ℕ → ℕ → ℕ → ℕ) (words : List ℕ) (G :
   May (Node node word) = Own.own (NodeAt node) ⊎ (IsOpen × (In node at.nodes ⊎ In node at.listed))
   May (PageWord index) = IsOpen × PageThere g words G at (index / 64)
   May (Section d) = Own.near d
+  May (NodeMap index) = Own.nodes
+  May (PageMap index) = Own.pages
   May _ = Unit {0}
 
   pub record Lies (op : Op) : Type 0 where
@@ -204,35 +208,35 @@ module _ (env : Env) (mix : ℕ → ℕ → ℕ → ℕ) (words : List ℕ) (G :
 
   -- ---- nodes and tables of the call's own
 
-  take_node_lies : (m : TakeNodeModel) → IsTakeIn g m → Lies (take_node_plan m)
-  take_node_lies m within = go m.at within.at_in
+  take_node_lies : (m : TakeNodeModel) → IsTakeIn g m → Own.nodes → Lies (take_node_plan m)
+  take_node_lies m within may = go m.at within.at_in
     where
       go : (state : TakeNodeAt) → IsTakeAtIn g state → Lies (taking.plan_at m.geometry state)
-      go (takes.MapWord index) is = record { address = NodeMap index; there = is; on = refl; may = tt }
-      go (takes.Claim index bit) is = record { address = NodeMap index; there = (let below = is.below in omega (arith, below)); on = refl; may = tt }
+      go (takes.MapWord index) is = record { address = NodeMap index; there = is; on = refl; may = may }
+      go (takes.Claim index bit) is = record { address = NodeMap index; there = (let below = is.below in omega (arith, below)); on = refl; may = may }
 
-  pub new_node_lies : (m : NewNodeModel) → IsNewNodeIn g m → ((n : ℕ) → node_of_new m.at ≡ Some n → Own.own (NodeAt n))
+  pub new_node_lies : (m : NewNodeModel) → IsNewNodeIn g m → Own.nodes → ((n : ℕ) → node_of_new m.at ≡ Some n → Own.own (NodeAt n))
       → Lies (new_node_plan m)
-  new_node_lies m within own =
+  new_node_lies m within may own =
       subst (λ (g : Geometry). Lies (new_node_plan_at g m.key m.owner m.at)) (sym within.geometry_same) (go m.at within.at_in own)
     where
       go : (state : NewNodeAt) → IsNewNodeAtIn g state → ((n : ℕ) → node_of_new state ≡ Some n → Own.own (NodeAt n))
           → Lies (new_node_plan_at g m.key m.owner state)
-      go (news.Taking take) is own = take_node_lies take is
+      go (news.Taking take) is own = take_node_lies take is may
       go (news.Key node) is own = record { address = Node node KeyWord; there = is; on = refl; may = inl (own node refl) }
       go (news.Owner node) is own = record { address = Node node OwnerWord; there = is; on = refl; may = inl (own node refl) }
       go (news.ListLink node) is own = record { address = Node node ListLink; there = is; on = refl; may = inl (own node refl) }
 
-  pub give_node_lies : (m : GiveNodeModel) → IsGiveIn g m → Lies (give_node_plan m)
-  give_node_lies m within = record {
+  pub give_node_lies : (m : GiveNodeModel) → IsGiveIn g m → Own.nodes → Lies (give_node_plan m)
+  give_node_lies m within may = record {
     address = NodeMap (m.node / 64);
     there = (let low = within.node_in in omega (arith, low));
     on = refl;
-    may = tt;
+    may = may;
   }
 
-  pub take_run_lies : (m : TakeRunModel) → IsTakeRunIn g m → Lies (take_run_plan m)
-  take_run_lies m within =
+  pub take_run_lies : (m : TakeRunModel) → IsTakeRunIn g m → Own.pages → Lies (take_run_plan m)
+  take_run_lies m within may =
       subst (λ (g : Geometry). Lies (take_run_plan_at g m.pages m.at)) (sym within.geometry_same) (go m.at within.at_in)
     where
       go : (state : TakeRunAt) → IsTakeRunAtIn g m.pages state → Lies (take_run_plan_at g m.pages state)
@@ -240,38 +244,38 @@ module _ (env : Env) (mix : ℕ → ℕ → ℕ → ℕ) (words : List ℕ) (G :
         address = PageMap index;
         there = (let low = is.run.within in let until = is.word.until in omega (arith, low, until));
         on = refl;
-        may = tt;
+        may = may;
       }
       go (runs.Claim first index) is = record {
         address = PageMap index;
         there = (let low = is.run.within in let until = is.word.until in omega (arith, low, until));
         on = refl;
-        may = tt;
+        may = may;
       }
       go (runs.GiveBack first index bits) is = record {
         address = PageMap index;
         there = (let low = is.run.run.within in let until = is.run.word.until in omega (arith, low, until));
         on = refl;
-        may = tt;
+        may = may;
       }
 
-  pub give_run_lies : (m : GiveRunModel) → IsGiveRunIn g m → Lies (give_run_plan m)
-  give_run_lies m within = record {
+  pub give_run_lies : (m : GiveRunModel) → IsGiveRunIn g m → Own.pages → Lies (give_run_plan m)
+  give_run_lies m within may = record {
     address = PageMap m.index;
     there = (let low = within.run.within in let until = within.word.until in omega (arith, low, until));
     on = ap (λ (g : Geometry). place_of g (PageMap m.index)) within.geometry_same;
-    may = tt;
+    may = may;
   }
 
-  pub make_lies : (m : MakeModel) → IsMakeIn g m → ((s : ℕ) → slot_of_make m.at ≡ Some s → Own.own (TableIn s)) → Lies (make_plan m)
-  make_lies m within own =
+  pub make_lies : (m : MakeModel) → IsMakeIn g m → Own.pages → ((s : ℕ) → slot_of_make m.at ≡ Some s → Own.own (TableIn s)) → Lies (make_plan m)
+  make_lies m within may own =
       subst (λ (g : Geometry). Lies (make_plan_at g m.exponent m.seed m.at)) (sym within.geometry_same) (go m.at within.at_in own)
     where
       go : (state : MakeAt) → IsMakeAtIn g m.exponent m.nested state → ((s : ℕ) → slot_of_make state ≡ Some s → Own.own (TableIn s))
           → Lies (make_plan_at g m.exponent m.seed state)
       go (makes.Slot slot) is own = record { address = Slot slot StateWord; there = (is, tt); on = refl; may = λ w. absurd w }
-      go (makes.Taking slot take) is own = take_run_lies take is.take_in
-      go (makes.TakingTop slot take) is own = take_run_lies take is.taking.take_in
+      go (makes.Taking slot take) is own = take_run_lies take is.take_in may
+      go (makes.TakingTop slot take) is own = take_run_lies take is.taking.take_in may
       go (makes.SlotBack slot) is own = record { address = Slot slot StateWord; there = (is, tt); on = refl; may = λ w. absurd w }
       go (makes.NextSerial slot nested page) is own = record { address = NextSerial; there = tt; on = refl; may = tt }
       go (makes.Shape slot nested page serial) is own =
@@ -283,20 +287,20 @@ module _ (env : Env) (mix : ℕ → ℕ → ℕ → ℕ) (words : List ℕ) (G :
       go (makes.Serial slot nested page serial) is own =
           record { address = Slot slot SerialWord; there = (is.taken.slot_in, tt); on = refl; may = λ w. inl (own slot refl) }
 
-  pub unmake_lies : (m : UnmakeModel) → IsUnmakeIn g m → Lies (unmake_plan m)
-  unmake_lies m within = go m.at within.at_in
+  pub unmake_lies : (m : UnmakeModel) → IsUnmakeIn g m → Own.pages → Lies (unmake_plan m)
+  unmake_lies m within may = go m.at within.at_in
     where
       go : (state : UnmakeAt) → IsUnmakeAtIn g state → Lies (unmake_plan_at m.geometry m.slot state)
-      go (unmakes.Giving give) is = give_run_lies give is
+      go (unmakes.Giving give) is = give_run_lies give is may
       go unmakes.SlotBack is = record { address = Slot m.slot StateWord; there = (within.slot_in, tt); on = refl; may = λ w. absurd w }
 
-  pub grow_lies : (m : GrowModel) → IsGrowIn g m → IsOpen
+  pub grow_lies : (m : GrowModel) → IsGrowIn g m → Own.pages → IsOpen
       → ((page : ℕ) → m.at ≡ grows.Entering page → PageThere g words G at (word_index env mix m.entry / 64)) → Lies (grow_plan m)
-  grow_lies m within inside there = go m.at within.at_in there
+  grow_lies m within may inside there = go m.at within.at_in there
     where
       go : (state : GrowAt) → IsGrowAtIn g state
           → ((page : ℕ) → state ≡ grows.Entering page → PageThere g words G at (word_index env mix m.entry / 64))
           → Lies (grow_plan_at m.entry state)
-      go (grows.Taking take) is there = take_run_lies take is.take_in
+      go (grows.Taking take) is there = take_run_lies take is.take_in may
       go (grows.Entering page) is there = page_lies _ m.entry within.entry_in refl inside (there page refl)
-      go (grows.Giving found give) is there = give_run_lies give is.give_in
+      go (grows.Giving found give) is there = give_run_lies give is.give_in may

@@ -31,10 +31,16 @@ replacing-inside : (claimed : Claimed) (stored : Bool) → (holds_replacing clai
 replacing-inside claimed true = refl
 replacing-inside claimed false = refl
 
+-- a bind is on the map of nodes while it looks for a node, and where it gives one back
+abbrev pub on_nodes_of_bind : BindAt → Type 0
+on_nodes_of_bind (at.Filling new) = Unit {0}
+on_nodes_of_bind (at.Giving give reply) = Unit {0}
+on_nodes_of_bind _ = ⊥
+
 module _ (env : Env) (mix : ℕ → ℕ → ℕ → ℕ) (port owner : ℕ) (once : Bool) (words : List ℕ) (G : Ghost)
     (whole : Whole env mix (mem env mix words) G) (c : ℕ) (low : c < 16) where
   abbrev Own : BindAt → Allowed
-  Own state = AllowedOf (held_of_bind state) G c (λ d. d ≡ c)
+  Own state = AllowedOf (held_of_bind state) G c (λ d. d ≡ c) (on_nodes_of_bind state) (Unit {0})
 
   abbrev Is : BindAt → Type 0
   Is state = Lies env mix words G (held_of_bind state) (standing_of_bind state) (Own state) (plan_at env c state)
@@ -59,7 +65,7 @@ module _ (env : Env) (mix : ℕ → ℕ → ℕ → ℕ) (port owner : ℕ) (onc
 
   pub bind_lies : (state : BindAt) → IsBindAtIn env state → Knows state → tied_of_bind env mix G state → Is state
   bind_lies (at.Filling new) within knows tied =
-      new_node_lies env mix words G _ _ (Own (at.Filling new)) new within
+      new_node_lies env mix words G _ _ (Own (at.Filling new)) new within tt
       (λ n is. (is, new_mine env mix words G whole c port owner new.at n is knows.knowing.means.node))
   bind_lies (at.Opening attempt) within knows tied = record { address = Section c; there = low; on = refl; may = refl }
   bind_lies (at.CurrentTable attempt) within knows tied = record { address = CurrentTable; there = tt; on = refl; may = refl }
@@ -68,7 +74,7 @@ module _ (env : Env) (mix : ℕ → ℕ → ℕ → ℕ) (port owner : ℕ) (onc
       locate_way env mix words G whole _ (Own (at.Locating attempt locate)) c port from locate within.locate_in refl (inl refl)
       knows.knowing.means.table
   bind_lies (at.Entering attempt table shape place grow) within knows tied =
-      grow_lies env mix words G _ _ (Own (at.Entering attempt table shape place grow)) grow within.grow_in refl
+      grow_lies env mix words G _ _ (Own (at.Entering attempt table shape place grow)) grow within.grow_in tt refl
       (entry_page attempt table shape place grow within.place_in knows)
   bind_lies (at.Probing attempt table shape probe) within knows tied =
       let from = standing_of_bind (at.Probing attempt table shape probe) in
@@ -125,7 +131,7 @@ module _ (env : Env) (mix : ℕ → ℕ → ℕ → ℕ) (port owner : ℕ) (onc
   bind_lies (at.Root growing) within knows tied = record { address = CurrentTable; there = tt; on = refl; may = refl }
   bind_lies (at.GrowthCount growing root) within knows tied = record { address = PortCount; there = tt; on = refl; may = tt }
   bind_lies (at.Making growing size make) within knows tied =
-      make_lies env mix words G _ _ (Own (at.Making growing size make)) make within.make_in
+      make_lies env mix words G _ _ (Own (at.Making growing size make)) make within.make_in tt
       (λ s is. (is, make_mine env mix words G whole c make.exponent make.seed make.at s is knows.knowing.means.making))
   bind_lies (at.FutureAgain growing refusal) within knows tied = record {
     address = Slot growing.table FutureWord;
@@ -140,6 +146,6 @@ module _ (env : Env) (mix : ℕ → ℕ → ℕ → ℕ) (port owner : ℕ) (onc
     may = λ w. inr (refl, inl refl);
   }
   bind_lies (at.Unmaking attempt unmake answer) within knows tied =
-      unmake_lies env mix words G _ _ (Own (at.Unmaking attempt unmake answer)) unmake within.unmake_in
+      unmake_lies env mix words G _ _ (Own (at.Unmaking attempt unmake answer)) unmake within.unmake_in tt
   bind_lies (at.Closing ending) within knows tied = record { address = Section c; there = low; on = refl; may = refl }
-  bind_lies (at.Giving give reply) within knows tied = give_node_lies env mix words G _ _ (Own (at.Giving give reply)) give within
+  bind_lies (at.Giving give reply) within knows tied = give_node_lies env mix words G _ _ (Own (at.Giving give reply)) give within tt

@@ -56,7 +56,13 @@ replacing-inside : (node : ℕ) (found : FoundPort) (stored : Bool) → (holds_r
 replacing-inside node found true = refl
 replacing-inside node found false = refl
 
--- and so it is while it unlocks the bucket
+-- a rebind is on the map of nodes while it looks for a node, and where it gives one back
+abbrev pub on_nodes_of_rebind : RebindAt → Type 0
+on_nodes_of_rebind (rebinds.Filling fresh) = Unit {0}
+on_nodes_of_rebind (rebinds.Giving give) = Unit {0}
+on_nodes_of_rebind _ = ⊥
+
+-- and it is in its section while it unlocks the bucket
 end-inside : (lock : Option ℕ) (end : RebindEnd) → (holds_end lock end).section ≡ true
 end-inside lock (ends.Rebound removed) = refl
 end-inside lock (ends.Absent node) = refl
@@ -82,7 +88,7 @@ module _ (env : Env) (mix : ℕ → ℕ → ℕ → ℕ) (port owner : ℕ) (wor
   -- ---- a listing
 
   abbrev OwnAll : Kept ℕ → AllAt → Allowed
-  OwnAll room state = AllowedOf (held_of_all room.items state) G c (λ d. d ≡ c)
+  OwnAll room state = AllowedOf (held_of_all room.items state) G c (λ d. d ≡ c) ⊥ ⊥
 
   pub all_lies : (room : Kept ℕ) (state : AllAt) → all.IsAllAtIn env state → AllKnows env mix c port room state (mem env mix words) G
       → tied_of_all env mix G state
@@ -103,7 +109,7 @@ module _ (env : Env) (mix : ℕ → ℕ → ℕ → ℕ) (port owner : ℕ) (wor
   -- ---- a release
 
   abbrev OwnRelease : ReleaseAt → Allowed
-  OwnRelease state = AllowedOf (held_of_release state) G c (λ d. d ≡ c)
+  OwnRelease state = AllowedOf (held_of_release state) G c (λ d. d ≡ c) ⊥ ⊥
 
   pub release_lies : (state : ReleaseAt) → release.IsReleaseAtIn env state → ReleaseKnows env mix c port owner state (mem env mix words) G
       → tied_of_release env mix G state
@@ -141,14 +147,14 @@ module _ (env : Env) (mix : ℕ → ℕ → ℕ → ℕ) (port owner : ℕ) (wor
   -- ---- a rebind
 
   abbrev OwnRebind : RebindAt → Allowed
-  OwnRebind state = AllowedOf (held_of_rebind state) G c (λ d. d ≡ c)
+  OwnRebind state = AllowedOf (held_of_rebind state) G c (λ d. d ≡ c) (on_nodes_of_rebind state) ⊥
 
   pub rebind_lies : (new : ℕ) (state : RebindAt) → rebind.IsRebindAtIn env state
       → RebindKnows env mix c port owner new state (mem env mix words) G
       → tied_of_rebind env mix G state
       → Lies env mix words G (held_of_rebind state) (standing_of_rebind state) (OwnRebind state) (rebind.plan_at env c state)
   rebind_lies new (rebinds.Filling fresh) within knows tied =
-      new_node_lies env mix words G _ _ (OwnRebind (rebinds.Filling fresh)) fresh within
+      new_node_lies env mix words G _ _ (OwnRebind (rebinds.Filling fresh)) fresh within tt
       (λ n is. (is, new_mine env mix words G whole c port new fresh.at n is knows.knowing.means.node))
   rebind_lies new (rebinds.Opening node) within knows tied = record { address = Section c; there = low; on = refl; may = refl }
   rebind_lies new (rebinds.Seeking node seek) within knows tied =
@@ -177,4 +183,4 @@ module _ (env : Env) (mix : ℕ → ℕ → ℕ → ℕ) (port owner : ℕ) (wor
       (end-inside (Some unlock.place) end)
       (tied_page env mix words G whole from table unlock.place (at_table table (inl refl)) tied)
   rebind_lies new (rebinds.Closing end) within knows tied = record { address = Section c; there = low; on = refl; may = refl }
-  rebind_lies new (rebinds.Giving give) within knows tied = give_node_lies env mix words G _ _ (OwnRebind (rebinds.Giving give)) give within
+  rebind_lies new (rebinds.Giving give) within knows tied = give_node_lies env mix words G _ _ (OwnRebind (rebinds.Giving give)) give within tt

@@ -71,7 +71,7 @@ module _ (env : Env) (mix : ℕ → ℕ → ℕ → ℕ) (words : List ℕ) (G :
     pub does : (op ≡ Load (place_of g (PageWord index)))
         ⊎ ((op ≡ Store (place_of g (PageWord index)) 0) × LeadsToBlank (word_at g words (PageWord index)))
 
-  module _ (h : Held Answer) (from : Standing) (Own : Allowed) where
+  module _ (h : Held Answer) (from : Standing) (Own : Allowed) (pages : Own.pages) where
     -- a word of which nothing is asked, or one of these
     abbrev pub Returns : Op → Type 0
     Returns op = Lies env mix words G h from Own op ⊎ LoadsShape op ⊎ TakesEntry op
@@ -259,7 +259,7 @@ module _ (env : Env) (mix : ℕ → ℕ → ℕ → ℕ) (words : List ℕ) (G :
 
     -- a page that is given back
     page_lies : (page : ℕ) → page < g.pages → Returns (give_run_plan (give_run_new g page 1))
-    page_lies page l = inl (record { address = PageMap (page / 64); there = omega (arith, l); on = refl; may = tt })
+    page_lies page l = inl (record { address = PageMap (page / 64); there = omega (arith, l); on = refl; may = pages })
 
     -- what the worker knows in a state
     abbrev Knows : ReturnTablesAt → Type 0
@@ -269,7 +269,7 @@ module _ (env : Env) (mix : ℕ → ℕ → ℕ → ℕ) (words : List ℕ) (G :
         → Knows (returns_at.Giving (record { geometry = g; slot = slot; at = state })) → tied_of_giving state → Returns (give_table_plan_at g slot state)
     give_lies slot l gives.Shape within knows tied =
         inr (inl (record { slot = slot; slot_in = l; over = knows.means.work.more; loads = refl }))
-    give_lies slot l (gives.Run give) within knows tied = inl (give_run_lies env mix words G h from Own give within)
+    give_lies slot l (gives.Run give) within knows tied = inl (give_run_lies env mix words G h from Own give within pages)
     give_lies slot l (gives.TopEntry shape top) within knows tied =
         inr (inr (takes_top knows.means.work.works.0 slot shape top knows.means.work.more _ top within tied (inl refl)))
     give_lies slot l (gives.LeafEntry shape top page leaf) within knows tied =

@@ -42,9 +42,9 @@ OwnOf h G c (TableIn slot) = (h.slot ≡ Some slot) × (G.slot slot ≡ SlotHeld
 OwnOf h G c (PageAt page) = ⊥
 OwnOf h G c (NodeAt node) = (h.node ≡ Some node) × (G.node node ≡ NodeHeld c)
 
--- and beside it the section words of these callers
-abbrev pub AllowedOf : Held Answer → Ghost → ℕ → (ℕ → Type 0) → Allowed
-AllowedOf h G c near = record { own = OwnOf h G c; near = near }
+-- and beside it the section words of these callers, and the maps as is said
+abbrev pub AllowedOf : Held Answer → Ghost → ℕ → (ℕ → Type 0) → Type 0 → Type 0 → Allowed
+AllowedOf h G c near nodes pages = record { own = OwnOf h G c; near = near; nodes = nodes; pages = pages }
 
 module _ (env : Env) (mix : ℕ → ℕ → ℕ → ℕ) (words : List ℕ) (G : Ghost) (whole : Whole env mix (mem env mix words) G) where
   abbrev M : Memory

@@ -44,7 +44,7 @@ near_of_work c _ d = d ≡ c
 
 module _ (env : Env) (mix : ℕ → ℕ → ℕ → ℕ) (words : List ℕ) (G : Ghost) (whole : Whole env mix (mem env mix words) G) (c : ℕ) (low : c < 16) where
   abbrev Own : WorkAt → Allowed
-  Own state = AllowedOf (held_of_work state) G c (near_of_work c state)
+  Own state = AllowedOf (held_of_work state) G c (near_of_work c state) ⊥ (Unit {0})
 
   abbrev Is : WorkAt → Type 0
   Is state = Lies env mix words G (held_of_work state) (standing_of_work state) (Own state) (plan_at env c state)
@@ -142,12 +142,12 @@ module _ (env : Env) (mix : ℕ → ℕ → ℕ → ℕ) (words : List ℕ) (G :
       last_lies _ _ (Own (at.LastTable root seek)) seek within.seek_in refl (inr (inl refl))
   work_lies (at.Count root last) none within knows = record { address = PortCount; there = tt; on = refl; may = tt }
   work_lies (at.Making wanted make) none within knows =
-      make_lies env mix words G _ _ (Own (at.Making wanted make)) make within.make_in
+      make_lies env mix words G _ _ (Own (at.Making wanted make)) make within.make_in tt
       (λ s is. (is, make_mine env mix words G whole c make.exponent make.seed make.at s is knows.means.making))
   work_lies (at.Attaching root last slot shape) none within knows =
       record { address = Slot last FutureWord; there = (within.last_in, tt); on = refl; may = λ w. inr (refl, inr (inl refl)) }
   work_lies (at.Unmaking root unmake) none within knows =
-      unmake_lies env mix words G _ _ (Own (at.Unmaking root unmake)) unmake within.unmake_in
+      unmake_lies env mix words G _ _ (Own (at.Unmaking root unmake)) unmake within.unmake_in tt
   work_lies (at.RootFuture root due) none within knows =
       record { address = Slot root FutureWord; there = (within, tt); on = refl; may = λ w. inr (refl, inl refl) }
   work_lies (at.RootShape root future again) none within knows =
