@@ -44,6 +44,8 @@ pub mod EnteringBinds
 pub mod LockedJobs
 -- in every run a call that changes nothing by its reply has undone what it did
 pub mod RefusedCalls
+-- that a bind which looks for room holds none
+pub mod RoomHeld
 -- what an operation does to locks
 pub mod LocksTurned
 -- in every run a call that has ended has let go of its locks and its section

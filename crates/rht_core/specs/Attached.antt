@@ -8,7 +8,7 @@
 -- each caller to have left. By the words that are kept in a slot it finds this, and who retires a table keeps them. And the work
 -- lock is taken by a resizing, and given back by the one that took it. Under it tables become current, are retired and are given
 -- back.
-use Rattle.std.specs.Prelude.{◌≡◌, ◌≢◌, ℕ, ◌*◌, ◌<◌, ◌⊎◌, ◌≤◌, true, false, Some, List, [], ◌∷◌, ◌++◌, IfSome, map}
+use Rattle.std.specs.Prelude.{◌≡◌, ◌≢◌, ℕ, ◌*◌, ◌<◌, ◌⊎◌, ◌≤◌, Bool, true, false, Some, List, [], ◌∷◌, ◌++◌, IfSome, map}
 use Rattle.std.specs.List.{AllByRecursion, Any}
 use Rattle.rht_words.specs.declared.op.Op.TheVariants.{Load, Store}
 use Rattle.rht_words.specs.declared.env.Env.{Env}
@@ -40,6 +40,7 @@ use Rattle.rht_core.specs.Due.{pages_due}
 use Rattle.rht_core.specs.WorkCauses.{TakesWorkLock, HasChosen, StoresCurrent}
 use Rattle.rht_core.specs.Refused.{StoresLast, IsWaysEnd, PutsPage, HasTaken}
 use Rattle.rht_core.specs.Returned.{ReturnsSlot}
+use Rattle.rht_core.specs.RoomHeld.{LooksForRoom, HoldsNoRoom}
 use Rattle.rht_core.specs.TablePages.{IsEntryOfTable}
 
 -- the operation changes one of the words that say something of the table in this slot
@@ -328,7 +329,8 @@ module _ (M : Type 0) (mix : ℕ → ℕ → ℕ → ℕ) (env : Env) (events : 
   -- an entry that leads to no page, the call is a bind, and enters a page there. It changes none that leads to a page. Where it
   -- changes whether a slot is free there is a cause for that. Where it changes what is kept in a slot of a section, the call is a
   -- resizing, which keeps that section's word. And where it changes the work lock, the call is a resizing, which takes it or
-  -- gives it back.
+  -- gives it back. Where it loads the count of ports, the future of a table or a word of the pages, and the call is a bind, this
+  -- holds no slot and no page.
   pub record ChangesRightly (call : Call) (before : List Did) (did : Did) : Type 0 where
     pub tables : (slot : ℕ) → ChangesTable env.geometry slot did → IsOwnTable slot before did ⊎ AttachesRightly call slot before did
     pub current :
@@ -342,6 +344,8 @@ module _ (M : Type 0) (mix : ℕ → ℕ → ℕ → ℕ) (env : Env) (events : 
     pub kept : (slot caller : ℕ) → ChangesKept env.geometry slot caller did
         → (call ≡ Work) × KeepsWordOf env.geometry slot caller before did
     pub work : ChangesWorkLock env.geometry did → WorkLockCause env.geometry call before did
+    pub free : (port owner : ℕ) (once : Bool) → call ≡ Bind port owner once → LooksForRoom env.geometry did
+        → HoldsNoRoom env.geometry (words_before M mix env events) before
 
   -- so do all calls of the caller, those that have ended and the one in progress
   pub record HasAttachedRightly (r : Traced M) : Type 0 where

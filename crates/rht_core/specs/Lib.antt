@@ -82,6 +82,8 @@ pub mod FewPorts
 pub mod Refused
 -- that a call has let go of its locks and its section
 pub mod LetGo
+-- that a call holds no slot and no page
+pub mod RoomHeld
 -- when a table is attached, by whom, and of which size
 pub mod Attached
 -- what is true of each table in force

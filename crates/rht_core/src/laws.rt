@@ -161,6 +161,8 @@ pub fn searches<M: Mix>()
 /// the bind loaded its future as none, while its port had no owner. Then it loaded an entry of it that led to no
 /// page, at which the way to the port's bucket ends. Behind that each page was seen taken in its turn.
 ///
+/// Where the bind loads that count, that future or that entry it holds no slot and no page itself (`attached`).
+///
 /// A `Work` that was answered `Elsewhere` found the work lock taken. Any other one took it. Then it went through the
 /// slots, and gave each retired table back whose readers it found to have left, as `laws::returns_tables` of
 /// `rht_reclaim` says; it did nothing else before it opened its own caller's read section. It loaded which table is the
@@ -539,6 +541,11 @@ pub fn harmless<M: Mix>()
 /// Nor does it change the word of the work lock, but for one of a `Work`. That takes the lock, by an exchange of 0
 /// for 1, or stores 0, where its own operations took it and didn't change that word since. In these words a `Work`
 /// has the lock.
+///
+/// Where a bind loads the count of ports, the future of a table or a word of the pages, it holds no slot and no page. It
+/// has turned the bit of each page, and each bit of the state of each slot, an even number of times before, but for
+/// those of tables that it attached and of pages that it entered. So it doesn't hold what it then finds taken, unless
+/// it has put that into a table.
 ///
 /// It doesn't say that a slot which was taken is given back, or that a table is ever attached, or a page entered.
 pub fn attached<M: Mix>()

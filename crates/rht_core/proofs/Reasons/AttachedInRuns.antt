@@ -155,6 +155,7 @@ module _ (M : Type 0) (mix : ℕ → ℕ → ℕ → ℕ) (env : Env) (events : 
       states = seen.states;
       kept = seen.kept;
       work = seen.work;
+      free = seen.free;
       leading = λ index changed.
           let was = table_there M mix env events c admitted seen.few before did traced seen.unturned changed.table changed.stands in
           seen.leading index changed was.had was.yet;

@@ -3,7 +3,7 @@
 -- enters a missing page only on its way.
 use Rattle.rht_core.specs.Jobs.{job_plan}
 use Rattle.rht_core.proofs.Events.RangesInRuns.{soft-in}
-use Rattle.std.proofs.Common.{◌≡◌, ◌⊎◌, ◌*◌, ◌%◌, ◌<◌, ℕ, true, false, List, [], ◌∷◌, ◌++◌, Option, Some, None, inl, inr, refl, sym, ap, ◌∙◌, subst, arith}
+use Rattle.std.proofs.Common.{◌≡◌, ◌⊎◌, ◌*◌, ◌%◌, ◌<◌, ℕ, Bool, true, false, List, [], ◌∷◌, ◌++◌, Option, Some, None, inl, inr, refl, sym, ap, ◌∙◌, subst, arith}
 use Rattle.std.specs.Prelude.{min, max, ◌≤◌, take, drop}
 use Rattle.std.specs.List.{AllByRecursion}
 use Rattle.rht_words.specs.declared.env.Env.{Env}
@@ -23,16 +23,17 @@ use Rattle.rht_bind.specs.declared.bind.growth.Growing.{Growing}
 use Rattle.rht_nest.specs.Place.{nested_place}
 use Rattle.rht_stands.specs.StandsFor.{in_force, tables_from, shape_of}
 use Rattle.rht_core.specs.declared.event.Event.{Event}
-use Rattle.rht_core.specs.Jobs.{Job, call_of, job_after, held_of, held_next, IsFirstJob}
+use Rattle.rht_core.specs.Jobs.{Job, binds, call_of, job_after, held_of, held_next, IsFirstJob}
 use Rattle.rht_core.specs.Runs.{IsAdmitted, IsAdmittedEvent}
 use Rattle.rht_core.specs.Traces.{Did, performed_of}
 use Rattle.rht_core.specs.Seen.{StaysInSection, TurnsNoSection, words_before}
 use Rattle.rht_core.specs.ResizeCauses.{Attaches}
+use Rattle.rht_core.specs.RoomHeld.{LooksForRoom, HoldsNoRoom}
 use Rattle.rht_core.specs.Attached.{ChangesMissing, ChangesLeading, ChangesKept, KeepsWordOf, EnterCause, HasGoneOn, ChangesWorkLock, HasWorkLock, WorkLockCause, ChangesTable, ChangesCurrent, MovesOn, HasTakenSlot, EachBehind, AttachesDue, IsOwnTable, ChangesState, StateCause, MakesTables, RetiresTable, ReturnsRetired}
 use Rattle.rht_ghost.proofs.Pieces.HeldSections.{of_its_own}
 use Rattle.rht_ghost.proofs.Theory.Ghosts.{Ghost, IsSince, PageHeld, has_table, SlotHeld, index_at}
 use Rattle.rht_ghost.proofs.Theory.Wholes.{Whole, force-there, IsThere, AreThereFrom, slot-there}
-use Rattle.rht_ghost.proofs.Theory.Steps.{mem, ghost_after, Holding, Does}
+use Rattle.rht_ghost.proofs.Theory.Steps.{mem, ghost_after, Holding, Does, SaysChange}
 use Rattle.rht_words.specs.Operations.{op_value}
 use Rattle.rht_words.specs.Planned.{IsWord}
 use Rattle.rht_words.proofs.PlannedWords.{old_of-fits, word_after-fits}
@@ -46,7 +47,7 @@ use Rattle.rht_core.proofs.Machines.NeverHeld.{worker_works}
 use Rattle.rht_core.proofs.Events.RangesInRuns.{planned_job, words_fit}
 use Rattle.rht_core.proofs.Events.JobsOfCallers.{same_call, first_holds}
 use Rattle.rht_core.proofs.Meaning.TablesInForce.{in_force_is, leads_to_current}
-use Rattle.rht_core.proofs.Tracing.TracedJobs.{hard_by, hard, Performs, StandsIn, LeadsOn}
+use Rattle.rht_core.proofs.Tracing.TracedJobs.{hard_by, hard, hard_rests, Performs, StandsIn, LeadsOn}
 use Rattle.rht_core.proofs.Reasons.MadeSizes.{made_flat}
 use Rattle.rht_core.proofs.Reasons.SlotsTaken.{each-push}
 use Rattle.rht_core.proofs.Reasons.TableWordsKept.{FitBefore, KeepsHere, kept_by_move, by_move, current_by_move, StateHere, state_by_move, TakesWorkHere, GivesWorkHere, lock_by_move, worker_by_move}
@@ -72,6 +73,8 @@ use Rattle.rht_core.proofs.Undoing.MissingKept.{EntersThere, ClearsThere, Enters
 use Rattle.rht_core.proofs.Undoing.WorkStages as stages
 use Rattle.rht_core.proofs.Undoing.WorkStages.{stage_of}
 use Rattle.rht_core.proofs.Undoing.RefusedCalls as refusals
+use Rattle.rht_bind.specs.BindHeld.{held_of_bind}
+use Rattle.rht_core.proofs.Undoing.RoomHeld.{looks-elsewhere, bind-free, no-room}
 use Rattle.rht_core.proofs.Reasons.CausesInRuns.{JobSaw, EndsSeen, job-leads}
 use Rattle.rht_core.proofs.Reasons.WorksSeen.{to_attach-taken}
 use Rattle.rht_core.proofs.Reasons.TablesLeft.{retires_now, gone_on, KeepsNow, by_keeping, keeps_now}
@@ -130,6 +133,7 @@ module _ (M : Type 0) (mix : ℕ → ℕ → ℕ → ℕ) (env : Env) (events : 
     pub few : c < 16
     pub unturned : UnturnedTo g words_at c before did.index
     pub work : ChangesWorkLock g did → WorkLockCause g call before did
+    pub free : (port owner : ℕ) (once : Bool) → call ≡ Bind port owner once → LooksForRoom g did → HoldsNoRoom g words_at before
 
   -- a call that has the work lock has taken it by an operation of its own
   abbrev pub HasTakenWork : Job → List Did → Type 0
@@ -540,6 +544,22 @@ module _ (M : Type 0) (mix : ℕ → ℕ → ℕ → ℕ) (env : Env) (events : 
               ]
         ]
 
+    -- a bind that looks for room holds none
+    looks_free : (job : Job) (performs : Performs mix env job did) → performs.caller ≡ c → StandsIn mix env words_at job steps did performs
+        → refusals.Going M mix env events c job steps → (port owner : ℕ) (once : Bool) → call_of job ≡ Bind port owner once
+        → LooksForRoom g did → HoldsNoRoom g words_at steps
+    looks_free (binds its_port its_owner its_once state) performs own stands going port owner once asked look =
+        let elsewhere = looks-elsewhere g did look in
+        let is = hard_rests mix env performs stands.rests in
+        let free = bind-free env performs.caller did elsewhere state performs.within.at_in is in
+        elim going [
+          | inl past ↦ absurd (let both = sym past ∙ free.1 in cc)
+          | inr (inl says) ↦ absurd (subst SaysChange free.0.answer says)
+          | inr (inr kept) ↦
+              no-room g words_at c (subst (λ k. k < 16) own performs.few) its_port its_owner its_once (held_of_bind state) steps kept.undoes free.0
+        ]
+    looks_free job performs own stands going port owner once asked look = absurd (cc)
+
     changes : (job : Job) (performs : Performs mix env job did) → performs.caller ≡ c → StandsIn mix env words_at job steps did performs
         → JobSaw env c words_at mix job steps → refusals.Going M mix env events c job steps → HasTakenWork job steps
         → HasTakenPages job steps → ChangesSeen (call_of job) steps did
@@ -594,6 +614,7 @@ module _ (M : Type 0) (mix : ℕ → ℕ → ℕ → ℕ) (env : Env) (events : 
             | inl here ↦ (works_then job next (same_call mix env job did.old) here.has, inl here.takes)
             | inr here ↦ (worker_works job here.had, inr (taken here.had, here.gives))
           ];
+          free = λ port owner once asked look. looks_free job performs own stands going port owner once asked look;
         }
 
     -- an operation leads on with this too
