@@ -14,7 +14,7 @@ use Rattle.rht_model.specs.declared.history.Call.{Call}
 use Rattle.rht_script.specs.declared.done.Done.{Done}
 use Rattle.rht_core.specs.Runs.{World, run_of}
 use Rattle.rht_core.specs.Serving.{calls_of, IsServing}
-use Rattle.rht_run.specs.ServedRuns.{tag_of}
+use Rattle.rht_core.proofs.Histories.ToldHistories.{told}
 use Rattle.rht_deal.specs.DoneCommands.{numbers_of, done_by, endings_of, all_endings, as_done, calls_at, AreAllDone}
 use Rattle.rht_deal.specs.Numbers.{numbers_to, weight, AreRising}
 use Rattle.rht_deal.specs.Laws.{TellsEachOnce, TellsNoOther, TellsWorkers, DoesAsTold, HistoryFits}
@@ -136,11 +136,13 @@ AreAllDone-many config commands dones all =
     sym (length-map dones (λ (d : Done). d.number)) ∙ ap length all.numbers ∙ length-range_with_len 1 (length commands)
 
 -- The run serves the commands of each worker: those are the calls of the commands with its numbers, and their endings stand at its place.
-pub as_told : DoesAsTold
-as_told config auto commands dones closed dealing caller below =
-    let M : Type 0 = tag_of config.hash in
+pub as_told : (M : Type 0) → DoesAsTold M
+as_told M script dealt dealing caller below =
+    let config = script.config in
+    let commands = script.commands.items in
+    let dones = dealt.done.items in
     let all = dealing.done in
-    let served = dealing.run.served in
+    let served = dealing.served in
     let w : World M = run_of (mix_named config) served.env served.events in
     let worker : ℕ = caller + 1 in
     let many : length dones ≡ length commands =
@@ -149,13 +151,15 @@ as_told config auto commands dones closed dealing caller below =
     calls_of-done commands worker dones many (all.numbers ∙ ap (range_with_len 1) (sym many)) in
     let endings : get_or (all_endings config.callers dones) caller [] ≡ endings_of worker dones =
     all_endings-at config.callers caller dones below in (
-      subst (λ cs. IsServing {M = M} w auto caller cs (endings_of worker dones)) calls
-          (subst (λ es. IsServing {M = M} w auto caller (calls_of worker (as_done dones commands)) es) endings (served.each caller below)),
+      subst (λ cs. IsServing {M = M} w script.auto caller cs (endings_of worker dones)) calls
+          (subst (λ es. IsServing {M = M} w script.auto caller (calls_of worker (as_done dones commands)) es) endings (served.each caller below)),
       numbers_rise config commands dones all worker,
     )
 
-pub history_fits : HistoryFits
-history_fits config auto commands dones closed dealing = (dealing.run.history, dealing.run.tells)
+pub history_fits : (M : Type 0) → HistoryFits M
+history_fits M script dealt dealing =
+    told M (mix_named script.config) script.config script.auto (as_done dealt.done.items script.commands.items)
+    (all_endings script.config.callers dealt.done.items) dealt.closed dealing.served
 
 -- ---- the script's commands
 

@@ -1,18 +1,18 @@
 -- What follows for a script that was dealt rightly, in the words of its commands and its workers.
-use Rattle.std.specs.Prelude.{◌≡◌, ℕ, ◌+◌, ◌<◌, ◌≤◌, ◌==◌, Bool, List, length, count_by}
+use Rattle.std.specs.Prelude.{◌≡◌, ℕ, ◌+◌, ◌<◌, ◌≤◌, ◌==◌, List, length, count_by}
 use Rattle.std.specs.List.{AllByRecursion}
 use Rattle.rht_words.specs.declared.config.Config.{Config}
 use Rattle.rht_policy.specs.Mix.{mix_named}
-use Rattle.rht_model.specs.declared.bindings.Closed.{Closed}
 use Rattle.rht_model.specs.declared.history.Call.{Call}
 use Rattle.rht_model.specs.declared.history.Entry.{Entry}
 use Rattle.rht_core.specs.Runs.{run_of}
 use Rattle.rht_core.specs.Serving.{IsServing}
 use Rattle.rht_core.specs.ToldHistories.{TellsOf}
-use Rattle.rht_run.specs.ServedRuns.{tag_of}
+use Rattle.rht_script.specs.declared.script.Script.{Script}
 use Rattle.rht_script.specs.declared.done.Done.{Done}
+use Rattle.rht_deal.specs.declared.dealt.Dealt.{Dealt}
 use Rattle.rht_deal.specs.DoneCommands.{numbers_of, done_by, endings_of, calls_at, AreAllDone}
-use Rattle.rht_deal.specs.Dealing.{IsDealing}
+use Rattle.rht_deal.specs.Dealing.{IsDealtBy}
 use Rattle.rht_deal.specs.Numbers.{AreRising}
 
 -- ---- what is told
@@ -40,16 +40,14 @@ TellsWorkers =
 
 -- What a worker has done in the run is just what is told of it: the calls that its caller has finished serve the commands of these numbers,
 -- with these answers, and nothing else. And the numbers rise. So with the laws above each command was done exactly once in the run.
-abbrev pub DoesAsTold : Type 0
-DoesAsTold =
-    (config : Config) (auto : Bool) (commands : List (ℕ × Call)) (dones : List Done) (closed : Closed)
-    (dealing : IsDealing config auto commands dones closed) (caller : ℕ) → caller < config.callers
-    → IsServing {M = tag_of config.hash} (run_of (mix_named config) dealing.run.served.env dealing.run.served.events) auto caller
-    (calls_at commands (numbers_of (done_by (caller + 1) dones))) (endings_of (caller + 1) dones)
-    × AreRising (numbers_of (done_by (caller + 1) dones))
+abbrev pub DoesAsTold : Type 0 → Type 0
+DoesAsTold M =
+    (script : Script) (dealt : Dealt) (dealing : IsDealtBy M script dealt) (caller : ℕ) → caller < script.config.callers
+    → IsServing {M = M} (run_of (mix_named script.config) dealing.served.env dealing.served.events) script.auto caller
+    (calls_at script.commands.items (numbers_of (done_by (caller + 1) dealt.done.items))) (endings_of (caller + 1) dealt.done.items)
+    × AreRising (numbers_of (done_by (caller + 1) dealt.done.items))
 
--- One legal history tells of that run, and fits it (`TellsOf`).
-abbrev pub HistoryFits : Type 0
-HistoryFits =
-    (config : Config) (auto : Bool) (commands : List (ℕ × Call)) (dones : List Done) (closed : Closed)
-    (dealing : IsDealing config auto commands dones closed) → (history : List Entry) × TellsOf dealing.run.served history
+-- A legal history tells of that run, and fits it (`TellsOf`).
+abbrev pub HistoryFits : Type 0 → Type 0
+HistoryFits M =
+    (script : Script) (dealt : Dealt) (dealing : IsDealtBy M script dealt) → (history : List Entry) × TellsOf dealing.served history

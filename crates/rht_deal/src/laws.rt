@@ -2,6 +2,8 @@
 
 ghost use Rattle.rht_deal.specs.Laws.{TellsEachOnce, TellsNoOther, TellsWorkers, DoesAsTold, HistoryFits};
 
+use rht_policy::Mix;
+
 /// Of each command it is told exactly once that it was done.
 pub fn each_once()
     ensures { TellsEachOnce }
@@ -17,12 +19,13 @@ pub fn by_workers()
     ensures { TellsWorkers }
 {}
 
-/// Each worker did just the commands that are told of it, in the order of their numbers, with these answers.
-pub fn as_told()
-    ensures { DoesAsTold }
+/// Each worker did just the commands that are told of it, in the order of their numbers, with these answers. It is so of
+/// the run that dealing leaves.
+pub fn as_told<M: Mix>()
+    ensures { DoesAsTold M }
 {}
 
-/// A legal history fits what was done.
-pub fn history_fits()
-    ensures { HistoryFits }
+/// A legal history fits the run that dealing leaves.
+pub fn history_fits<M: Mix>()
+    ensures { HistoryFits M }
 {}
