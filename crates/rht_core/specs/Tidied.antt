@@ -5,6 +5,8 @@ use Rattle.std.specs.List.{AllByRecursion, Any, slice_get}
 use Rattle.rht_words.specs.declared.env.Env.{Env}
 use Rattle.rht_words.specs.declared.geometry.Geometry.{Geometry}
 use Rattle.rht_words.specs.Members.{In}
+use Rattle.rht_words.specs.Places.{Node, OwnerWord, word_at}
+use Rattle.rht_words.specs.Ports.{owner_of}
 use Rattle.rht_model.specs.declared.history.Call.{Call}
 use Rattle.rht_model.specs.declared.history.Call.TheVariants.{Release, Rebind, Tidy}
 use Rattle.rht_model.specs.declared.history.Reply.TheVariants.{Clear, Pending}
@@ -38,22 +40,24 @@ pub record TidiesRightly (g : Geometry) (before after : BatchModel) (past : Past
       × (after.fresh ≡ left_of before.fresh before.waiting)
       × ((node : ℕ) → ¬ GivesNode g past.steps node)
 
--- the call takes a binding of this port out
-abbrev pub RemovesAt : Call → ℕ → Type 0
-RemovesAt (Release port owner) at = port ≡ at
-RemovesAt (Rebind port owner new) at = port ≡ at
-RemovesAt _ at = ⊥
+-- the call takes a binding of this port to this owner out
+abbrev pub RemovesAt : Call → ℕ → ℕ → Type 0
+RemovesAt (Release port owner) at its = (port ≡ at) × (owner ≡ its)
+RemovesAt (Rebind port owner new) at its = (port ≡ at) × (owner ≡ its)
+RemovesAt _ at its = ⊥
 
--- with `words_at` for the words before each event: the operation took this node out of the list of this port
-pub record TakesNodeOut (g : Geometry) (words_at : ℕ → List ℕ) (port node : ℕ) (did : Did) : Type 0 where
+-- With `words_at` for the words before each event: the operation took this node out of the list of this port. It had this owner.
+pub record TakesNodeOut (g : Geometry) (words_at : ℕ → List ℕ) (port owner node : ℕ) (did : Did) : Type 0 where
   pub before : In node (nodes_of g (words_at did.index) port)
   pub behind : ¬ In node (nodes_of g (words_at (did.index + 1)) port)
+  pub owner_is : owner_of (word_at g (words_at did.index) (Node node OwnerWord)) ≡ owner
 
--- one of the operations of this call took the node out of the list of the call's port
+-- one of the operations of this call took the node, which had the call's owner, out of the list of the call's port
 pub record HasTakenOut (g : Geometry) (words_at : ℕ → List ℕ) (call : Call) (node : ℕ) (steps : List Did) : Type 0 where
   pub port : ℕ
-  pub removes : RemovesAt call port
-  pub takes : Any (TakesNodeOut g words_at port node) steps
+  pub owner : ℕ
+  pub removes : RemovesAt call port owner
+  pub takes : Any (TakesNodeOut g words_at port owner node) steps
 
 -- A call that is no tidying leaves the nodes that wait and the section words kept for them. The fresh nodes stay, in order; the node that the
 -- call took out follows them, exactly where the reply says that it took one out.

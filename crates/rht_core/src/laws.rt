@@ -307,8 +307,8 @@ pub fn at_rest<M: Mix>()
 ///
 /// Each ended call that is no tidying leaves the nodes that wait and the section words kept for them. The fresh nodes
 /// stay, in order; the node that the call took out follows them, exactly where the reply says that it took one out. It
-/// was in the list of the call's port before one of the call's operations, and not after it. So nodes that wait are
-/// given back by tidyings alone, and no grace period begins anew. The law doesn't say whose node of the list it was.
+/// was in the list of the call's port before one of the call's operations, with the call's owner, and not after it. So
+/// nodes that wait are given back by tidyings alone, and no grace period begins anew.
 pub fn tidied<M: Mix>()
     ensures tidied { Tidied M M.mix_of }
     ensures rests { Rests M M.mix_of }
@@ -320,8 +320,8 @@ pub fn tidied<M: Mix>()
 /// removals keep the order of its calls. A tidying takes those that are due, or all fresh ones where none is: answered
 /// `Clear` it hands them out, and answered `Pending` they are due from then on. While the caller is in no call, as many
 /// removals are fresh as its batch has fresh nodes, and as many are due as nodes wait. And they go together in order: at
-/// one of its operations each fresh removal took the fresh node at its place out of the list of its port, and so did
-/// each that is due the node that waits. A tidying that was answered `Clear` handed out as many as it says.
+/// one of its operations each fresh removal took the fresh node at its place, which had its owner, out of the list of its
+/// port. So did each that is due the node that waits. A tidying that was answered `Clear` handed out as many as it says.
 ///
 /// The replies of the caller's calls alone say which these are, and the bindings handed out are those of the removals
 /// handed out, in order. A removal hands out a binding: its owner may be bound still, at another port, again, or in a

@@ -8,6 +8,8 @@ use Rattle.rht_words.specs.declared.machine.Next.{Next}
 use Rattle.rht_words.specs.declared.machine.Next.TheVariants.{Go, Done}
 use Rattle.rht_words.specs.Links.{link_of}
 use Rattle.rht_words.specs.Members.{In}
+use Rattle.rht_words.specs.Places.{Node, OwnerWord}
+use Rattle.rht_words.specs.Ports.{owner_of}
 use Rattle.rht_words.proofs.Memory.{Memory}
 use Rattle.rht_words.proofs.Members.{in-middle}
 use Rattle.rht_arena.specs.NewNode.{NewNodeModel, new_node_after}
@@ -46,7 +48,7 @@ use Rattle.rht_core.specs.Jobs.{Job, finds, binds, lists, releases, rebinds, wor
 use Rattle.rht_ghost.proofs.Theory.Ghosts.{Ghost, Taken, Behind, seat_of, taken_is}
 use Rattle.rht_ghost.proofs.Theory.Wholes.{Whole}
 use Rattle.rht_ghost.proofs.Theory.Knowns.{KnownList, IsOwnersNode}
-use Rattle.rht_ghost.proofs.Theory.Knowledge.{Knowing}
+use Rattle.rht_ghost.proofs.Theory.Knowledge.{Knowing, ListMeans}
 use Rattle.rht_ghost.proofs.Theory.Steps.{Holding}
 use Rattle.rht_ghost.proofs.Pieces.Relinks.{unstored}
 use Rattle.rht_release.proofs.ReleaseKnowledge.{known_of_release, known_relinking}
@@ -143,32 +145,37 @@ module _ (env : Env) (mix : ℕ → ℕ → ℕ → ℕ) (c : ℕ) where
   when-other true node n none is = absurd (cc)
   when-other false node n none is = absurd (cc)
 
+  -- the node is in the port's list, with this owner
+  abbrev pub IsListed : Memory → Ghost → ℕ → ℕ → ℕ → Type 0
+  IsListed M G port owner node = In node (G.bound port) × (owner_of (M (Node node OwnerWord)) ≡ owner)
+
   -- while the chain is changed: behind the store that took the node out, or before it
   release_relinking : (port owner : ℕ) (h : Holding) (M : Memory) (G : Ghost) → Whole env mix M G
-      → (found : FoundPort) (known : KnownList) (stored : Bool)
+      → (found : FoundPort) (known : KnownList)
+      → ((behind : List ℕ) → ListMeans env mix c M G found.node behind known → owner_of (M (Node found.node OwnerWord)) ≡ owner) → (stored : Bool)
       → Knowing env mix c h (known_relinking port owner found known stored) M G
-      → ((stored ≡ true) × (G.node found.node ≡ Taken c)) ⊎ ((stored ≡ false) × In found.node (G.bound port))
-  release_relinking port owner h M G whole found known true k =
+      → ((stored ≡ true) × (G.node found.node ≡ Taken c)) ⊎ ((stored ≡ false) × IsListed M G port owner found.node)
+  release_relinking port owner h M G whole found known owns true k =
       inl (refl, taken_is c (G.node found.node) k.means.bucket.took.taken)
-  release_relinking port owner h M G whole found known false k =
-      let is = k.means.bucket in inr (refl, subst (In found.node) (sym is.bound_to) (inl refl))
+  release_relinking port owner h M G whole found known owns false k =
+      let is = k.means.bucket in inr (refl, (subst (In found.node) (sym is.bound_to) (inl refl), owns is.behind is.means))
 
   rebind_relinking : (port owner new node : ℕ) (h : Holding) (M : Memory) (G : Ghost) → Whole env mix M G
       → (found : FoundPort) (stored : Bool)
       → Knowing env mix c h (known_replacing port owner new node found stored) M G
-      → ((stored ≡ true) × (G.node found.node ≡ Taken c)) ⊎ ((stored ≡ false) × In found.node (G.bound port))
+      → ((stored ≡ true) × (G.node found.node ≡ Taken c)) ⊎ ((stored ≡ false) × IsListed M G port owner found.node)
   rebind_relinking port owner new node h M G whole found true k =
       inl (refl, taken_is c (G.node found.node) k.means.bucket.took.taken)
   rebind_relinking port owner new node h M G whole found false k =
-      let is = k.means.bucket in inr (refl, subst (In found.node) (sym is.bound_to) (inl refl))
+      let is = k.means.bucket in inr (refl, (subst (In found.node) (sym is.bound_to) (inl refl), is.means.owner_is))
 
   module _ (M : Memory) (G : Ghost) (whole : Whole env mix M G) (n : ℕ) where
     -- the caller has taken out the node that its state has
-    by_store : (port node : ℕ) (stored : Bool)
-        → ((stored ≡ true) × (G.node node ≡ Taken c)) ⊎ ((stored ≡ false) × In node (G.bound port))
+    by_store : (port owner node : ℕ) (stored : Bool)
+        → ((stored ≡ true) × (G.node node ≡ Taken c)) ⊎ ((stored ≡ false) × IsListed M G port owner node)
         → when stored node ≡ Some n → G.node n ≡ Taken c
-    by_store port node stored (inl (on, taken)) is = ap G.node (sym (when-so stored node n is).1) ∙ taken
-    by_store port node stored (inr (off, bound)) is = absurd (when-other stored node n off is)
+    by_store port owner node stored (inl (on, taken)) is = ap G.node (sym (when-so stored node n is).1) ∙ taken
+    by_store port owner node stored (inr (off, listed)) is = absurd (when-other stored node n off is)
 
     some-node : (node : ℕ) → Some node ≡ Some n → node ≡ n
     some-node node is = cc
@@ -176,11 +183,11 @@ module _ (env : Env) (mix : ℕ → ℕ → ℕ → ℕ) (c : ℕ) where
     release_taken : (port owner : ℕ) (h : Holding) (state : ReleaseAt) → Knowing env mix c h (known_of_release port owner state) M G
         → taken_at_release state ≡ Some n → G.node n ≡ Taken c
     release_taken port owner h (releasing.Promoting found relink) k is =
-        by_store port found.node (has_relinked found.before relink.at)
-        (release_relinking port owner h M G whole found _ (has_relinked found.before relink.at) k) is
+        by_store port owner found.node (has_relinked found.before relink.at)
+        (release_relinking port owner h M G whole found _ (λ behind means. means.leads.owner_is) (has_relinked found.before relink.at) k) is
     release_taken port owner h (releasing.Unlinking found relink) k is =
-        by_store port found.node (has_relinked found.before relink.at)
-        (release_relinking port owner h M G whole found _ (has_relinked found.before relink.at) k) is
+        by_store port owner found.node (has_relinked found.before relink.at)
+        (release_relinking port owner h M G whole found _ (λ behind means. means.leads.owner_is) (has_relinked found.before relink.at) k) is
     release_taken port owner h (releasing.Lowering node shape) k is =
         ap G.node (sym (some-node node is)) ∙ taken_is c (G.node node) k.means.bucket.taken
     release_taken port owner h (releasing.Unlocking table unlock (Some node)) k is =
@@ -192,7 +199,7 @@ module _ (env : Env) (mix : ℕ → ℕ → ℕ → ℕ) (c : ℕ) where
     rebind_taken : (port owner new : ℕ) (h : Holding) (state : RebindAt) → Knowing env mix c h (known_of_rebind port owner new state) M G
         → taken_at_rebind state ≡ Some n → G.node n ≡ Taken c
     rebind_taken port owner new h (rebinding.Replacing node found relink) k is =
-        by_store port found.node (has_relinked found.before relink.at)
+        by_store port owner found.node (has_relinked found.before relink.at)
         (rebind_relinking port owner new node h M G whole found (has_relinked found.before relink.at) k) is
     rebind_taken port owner new h (rebinding.Unlocking table unlock (ends.Rebound removed)) k is =
         ap G.node (sym (some-node removed is)) ∙ taken_is c (G.node removed) k.means.bucket.took.taken
@@ -207,24 +214,24 @@ module _ (env : Env) (mix : ℕ → ℕ → ℕ → ℕ) (c : ℕ) where
 
     -- ---- behind an operation
 
-    -- the state had it before, or it was in the list of this port
-    abbrev pub WasOrBound : ℕ → Option ℕ → Type 0
-    WasOrBound port was = (was ≡ Some n) ⊎ In n (G.bound port)
+    -- the state had it before, or it was in the list of this port, with this owner
+    abbrev pub WasOrBound : ℕ → ℕ → Option ℕ → Type 0
+    WasOrBound port owner was = (was ≡ Some n) ⊎ IsListed M G port owner n
 
     -- the store that takes it out is made now, or was before
-    stored_now : (port node : ℕ) (stored : Bool)
-        → ((stored ≡ true) × (G.node node ≡ Taken c)) ⊎ ((stored ≡ false) × In node (G.bound port))
-        → node ≡ n → WasOrBound port (when stored node)
-    stored_now port node stored (inl (on, taken)) same = inl (rw on (ap Some same))
-    stored_now port node stored (inr (off, bound)) same = inr (subst (λ m. In m (G.bound port)) same bound)
+    stored_now : (port owner node : ℕ) (stored : Bool)
+        → ((stored ≡ true) × (G.node node ≡ Taken c)) ⊎ ((stored ≡ false) × IsListed M G port owner node)
+        → node ≡ n → WasOrBound port owner (when stored node)
+    stored_now port owner node stored (inl (on, taken)) same = inl (rw on (ap Some same))
+    stored_now port owner node stored (inr (off, listed)) same = inr (subst (IsListed M G port owner) same listed)
 
     -- a node behind another one is in the port's list
     listed-bound : (port owner first : ℕ) (behind : List ℕ) → G.bound port ≡ first ∷ behind → (node : ℕ) (before : Option ℕ)
-        → IsOwnersNode M (first ∷ behind) node before owner → node ≡ n → In n (G.bound port)
+        → IsOwnersNode M (first ∷ behind) node before owner → node ≡ n → IsListed M G port owner n
     listed-bound port owner first behind bound node before is same =
         let among = is.stands.among in
         let there : In node (first ∷ behind) = subst (In node) (sym among.split) (in-middle node among.front among.rear) in
-        subst (λ m. In m (G.bound port)) same (subst (In node) (sym bound) there)
+        subst (IsListed M G port owner) same (subst (In node) (sym bound) there, is.owner_is)
 
     release_sought : (seek : SeekModel) (next : Next (Option FoundPort)) → taken_at_release (release.sought seek next) ≡ None
     release_sought seek Go = refl
@@ -260,33 +267,33 @@ module _ (env : Env) (mix : ℕ → ℕ → ℕ → ℕ) (c : ℕ) where
     release_unlinked found relink Go is = (when-so (has_relinked found.before relink.at) found.node n is).1
     release_unlinked found relink (Done done) is = cc
 
-    from_none : (port : ℕ) (now was : Option ℕ) → now ≡ None → now ≡ Some n → WasOrBound port was
-    from_none port now was none is = absurd (let both : None ≡ Some n = sym none ∙ is in cc)
+    from_none : (port owner : ℕ) (now was : Option ℕ) → now ≡ None → now ≡ Some n → WasOrBound port owner was
+    from_none port owner now was none is = absurd (let both : None ≡ Some n = sym none ∙ is in cc)
 
     release_then : (port owner : ℕ) (h : Holding) (state : ReleaseAt) (old : ℕ) → Knowing env mix c h (known_of_release port owner state) M G
-        → taken_at_release (release.after_at mix env port owner state old).0 ≡ Some n → WasOrBound port (taken_at_release state)
+        → taken_at_release (release.after_at mix env port owner state old).0 ≡ Some n → WasOrBound port owner (taken_at_release state)
     release_then port owner h releasing.Opening old k is = absurd (cc)
     release_then port owner h (releasing.Seeking seek) old k is =
-        from_none port _ None (release_sought (seek_after mix port seek old).0 (seek_after mix port seek old).1) is
+        from_none port owner _ None (release_sought (seek_after mix port seek old).0 (seek_after mix port seek old).1) is
     release_then port owner h (releasing.Searching found search) old k is =
-        let next = search_after env.geometry owner search old in from_none port _ None (release_searched found next.0 next.1) is
+        let next = search_after env.geometry owner search old in from_none port owner _ None (release_searched found next.0 next.1) is
     release_then port owner h (releasing.LinkBehind found node before) old k is =
-        from_none port _ None (release_cut env.geometry found node old before) is
+        from_none port owner _ None (release_cut env.geometry found node old before) is
     release_then port owner h (releasing.CuttingOut found node before link) old k is =
         let in_list = k.means.bucket in
         let same : node ≡ n = cc in
         inr (listed-bound port owner found.node in_list.behind in_list.bound_to node (Some before) in_list.means.is same)
     release_then port owner h (releasing.ChainLink found second) old k is =
-        from_none port _ None (release_unlink env.geometry found old second) is
+        from_none port owner _ None (release_unlink env.geometry found old second) is
     release_then port owner h (releasing.SecondLink found second link) old k is =
-        from_none port _ None (release_begun env.geometry found (link_of second)) is
+        from_none port owner _ None (release_begun env.geometry found (link_of second)) is
     release_then port owner h (releasing.Promoting found relink) old k is =
-        stored_now port found.node (has_relinked found.before relink.at)
-        (release_relinking port owner h M G whole found _ (has_relinked found.before relink.at) k)
+        stored_now port owner found.node (has_relinked found.before relink.at)
+        (release_relinking port owner h M G whole found _ (λ behind means. means.leads.owner_is) (has_relinked found.before relink.at) k)
         (release_promoted found (relink_after relink).0 (relink_after relink).1 is)
     release_then port owner h (releasing.Unlinking found relink) old k is =
-        stored_now port found.node (has_relinked found.before relink.at)
-        (release_relinking port owner h M G whole found _ (has_relinked found.before relink.at) k)
+        stored_now port owner found.node (has_relinked found.before relink.at)
+        (release_relinking port owner h M G whole found _ (λ behind means. means.leads.owner_is) (has_relinked found.before relink.at) k)
         (release_unlinked found (relink_after relink).0 (relink_after relink).1 is)
     release_then port owner h (releasing.Lowering node shape) old k is = inl is
     release_then port owner h (releasing.Unlocking table unlock removed) old k is = inl is
@@ -319,26 +326,26 @@ module _ (env : Env) (mix : ℕ → ℕ → ℕ → ℕ) (c : ℕ) where
     rebind_replaced node found relink (Done done) is = cc
 
     rebind_then : (port owner new : ℕ) (h : Holding) (state : RebindAt) (old : ℕ) → Knowing env mix c h (known_of_rebind port owner new state) M G
-        → taken_at_rebind (rebind.after_at mix env port owner state old).0 ≡ Some n → WasOrBound port (taken_at_rebind state)
+        → taken_at_rebind (rebind.after_at mix env port owner state old).0 ≡ Some n → WasOrBound port owner (taken_at_rebind state)
     rebind_then port owner new h (rebinding.Filling fresh) old k is =
-        from_none port _ None (rebind_filled (new_node_after fresh old).0 (new_node_after fresh old).1) is
+        from_none port owner _ None (rebind_filled (new_node_after fresh old).0 (new_node_after fresh old).1) is
     rebind_then port owner new h (rebinding.Opening node) old k is = absurd (cc)
     rebind_then port owner new h (rebinding.Seeking node seek) old k is =
-        from_none port _ None (rebind_sought node (seek_after mix port seek old).0 (seek_after mix port seek old).1) is
+        from_none port owner _ None (rebind_sought node (seek_after mix port seek old).0 (seek_after mix port seek old).1) is
     rebind_then port owner new h (rebinding.Searching node found search) old k is =
-        let next = search_after env.geometry owner search old in from_none port _ None (rebind_searched node found next.0 next.1) is
+        let next = search_after env.geometry owner search old in from_none port owner _ None (rebind_searched node found next.0 next.1) is
     rebind_then port owner new h (rebinding.LinkBehind node found removed before) old k is = absurd (cc)
     rebind_then port owner new h (rebinding.OwnListLink node found removed before link) old k is =
-        from_none port _ None (rebind_swapped node found removed before) is
+        from_none port owner _ None (rebind_swapped node found removed before) is
     rebind_then port owner new h (rebinding.Swapping node found removed before) old k is =
         let in_list = k.means.bucket in
         let same : removed ≡ n = cc in
         inr (listed-bound port owner found.node in_list.behind in_list.bound_to removed (Some before) in_list.means.is same)
     rebind_then port owner new h (rebinding.ChainLink node found) old k is = absurd (cc)
     rebind_then port owner new h (rebinding.Link node found link) old k is =
-        from_none port _ None (release_begun env.geometry found (link_of node)) is
+        from_none port owner _ None (release_begun env.geometry found (link_of node)) is
     rebind_then port owner new h (rebinding.Replacing node found relink) old k is =
-        stored_now port found.node (has_relinked found.before relink.at)
+        stored_now port owner found.node (has_relinked found.before relink.at)
         (rebind_relinking port owner new node h M G whole found (has_relinked found.before relink.at) k)
         (rebind_replaced node found (relink_after relink).0 (relink_after relink).1 is)
     rebind_then port owner new h (rebinding.Unlocking table unlock end) old k is = inl is
@@ -347,24 +354,27 @@ module _ (env : Env) (mix : ℕ → ℕ → ℕ → ℕ) (c : ℕ) where
     rebind_then port owner new h (rebinding.Giving give) old k is = absurd (cc)
 
     -- what is left of the job
-    left_then : {S A : Type 0} (job : S → Job) (ending : A → Ending) (port : ℕ) (was : Option ℕ) (r : S × Next A)
-        → (taken_of (job r.0) ≡ Some n → WasOrBound port was)
-        → taken_with (told (job_next job ending r)).0 ≡ Some n → WasOrBound port was
-    left_then job ending port was (state, Go) next is = next is
-    left_then job ending port was (state, Done end) next is = absurd (cc)
+    left_then : {S A : Type 0} (job : S → Job) (ending : A → Ending) (port owner : ℕ) (was : Option ℕ) (r : S × Next A)
+        → (taken_of (job r.0) ≡ Some n → WasOrBound port owner was)
+        → taken_with (told (job_next job ending r)).0 ≡ Some n → WasOrBound port owner was
+    left_then job ending port owner was (state, Go) next is = next is
+    left_then job ending port owner was (state, Done end) next is = absurd (cc)
 
-    -- it was in the list of the port at which the call takes a binding out
+    -- it was in the list of the port at which the call takes a binding out, with the owner of that
     pub record IsBoundFor (call : Call) : Type 0 where
       pub port : ℕ
-      pub removes : RemovesAt call port
+      pub owner : ℕ
+      pub removes : RemovesAt call port owner
       pub bound : In n (G.bound port)
+      pub owner_is : owner_of (M (Node n OwnerWord)) ≡ owner
 
     abbrev pub WasOrNow : Job → Type 0
     WasOrNow job = (taken_of job ≡ Some n) ⊎ IsBoundFor (call_of job)
 
-    at_port : (port : ℕ) (job : Job) → RemovesAt (call_of job) port → WasOrBound port (taken_of job) → WasOrNow job
-    at_port port job removes (inl was) = inl was
-    at_port port job removes (inr bound) = inr record { port = port; removes = removes; bound = bound }
+    at_port : (port owner : ℕ) (job : Job) → RemovesAt (call_of job) port owner → WasOrBound port owner (taken_of job) → WasOrNow job
+    at_port port owner job removes (inl was) = inl was
+    at_port port owner job removes (inr listed) =
+        inr record { port = port; owner = owner; removes = removes; bound = listed.0; owner_is = listed.1 }
 
     no_node : (job : Job) (now : Option ℕ) → now ≡ None → now ≡ Some n → WasOrNow job
     no_node job now none is = absurd (let both : None ≡ Some n = sym none ∙ is in cc)
@@ -377,12 +387,12 @@ module _ (env : Env) (mix : ℕ → ℕ → ℕ → ℕ) (c : ℕ) where
     pub taken_then : (job : Job) → JobKnows env mix c job M G → (old : ℕ)
         → taken_with (told (job_after mix env job old)).0 ≡ Some n → WasOrNow job
     taken_then (releases port owner state) knows old is =
-        at_port port (releases port owner state) refl
-        (left_then (releases port owner) node_ending port (taken_at_release state) (release.after_at mix env port owner state old)
+        at_port port owner (releases port owner state) (refl, refl)
+        (left_then (releases port owner) node_ending port owner (taken_at_release state) (release.after_at mix env port owner state old)
         (release_then port owner _ state old knows.knowing) is)
     taken_then (rebinds port owner new state) knows old is =
-        at_port port (rebinds port owner new state) refl
-        (left_then (rebinds port owner new) node_ending port (taken_at_rebind state) (rebind.after_at mix env port owner state old)
+        at_port port owner (rebinds port owner new state) (refl, refl)
+        (left_then (rebinds port owner new) node_ending port owner (taken_at_rebind state) (rebind.after_at mix env port owner state old)
         (rebind_then port owner new _ state old knows.knowing) is)
     taken_then (finds port state) knows old is =
         no_node (finds port state) _ (left-none (finds port) plain_ending (find.after_at mix env port state old) (λ s. refl)) is

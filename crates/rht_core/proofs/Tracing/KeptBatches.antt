@@ -11,6 +11,8 @@ use Rattle.rht_words.specs.declared.geometry.Geometry.{Geometry}
 use Rattle.rht_words.specs.declared.machine.Next.{Next}
 use Rattle.rht_words.specs.declared.machine.Next.TheVariants.{Go, Done}
 use Rattle.rht_words.specs.Operations.{old_of, applied}
+use Rattle.rht_words.specs.Places.{Node, OwnerWord, word_at}
+use Rattle.rht_words.specs.Ports.{owner_of}
 use Rattle.rht_words.proofs.EachElement.{AllByRecursion-append, Any-append_left}
 use Rattle.rht_words.proofs.Members.{one_if}
 use Rattle.std.proofs.lemmas.List.Quantifiers.{Any-push}
@@ -41,7 +43,7 @@ use Rattle.rht_core.proofs.Events.OwnBatches.{is_tidying, with_caller, out_said}
 use Rattle.rht_core.proofs.Events.SaidOfNodes.{many_of}
 use Rattle.rht_core.proofs.Events.SoundRuns.{runs-in}
 use Rattle.rht_core.proofs.Events.StepsOfCallers.{Knows, knows-told}
-use Rattle.rht_core.proofs.Events.TakenOut.{taken_with, taken_of, first_untaken, taken_known, taken_then, untaken-bound, hands_out, goes_none}
+use Rattle.rht_core.proofs.Events.TakenOut.{IsListed, taken_with, taken_of, first_untaken, taken_known, taken_then, untaken-bound, hands_out, goes_none}
 use Rattle.rht_core.proofs.Events.JobsOfCallers.{first_job-machine, same_call, left-job, nothing-job, is_no_job}
 use Rattle.rht_core.proofs.Machines.JobSteps.{JobKnows}
 use Rattle.rht_core.proofs.Meaning.BoundPorts.{listed_bound}
@@ -251,9 +253,9 @@ module _ (M : Type 0) (mix : ℕ → ℕ → ℕ → ℕ) (env : Env) where
       call-then job has = told-call then job (sym left ∙ has) (same_call mix env own_job did.old)
 
       -- a node that was in the port's list, and that the call has taken out behind the operation
-      takes-now : (port n : ℕ) (job : Job) → In n (performed.performs.ghost.bound port) → (told then).0 ≡ Some job → taken_of job ≡ Some n
-          → TakesNodeOut env.geometry words_at port n did
-      takes-now port n job there is taken =
+      takes-now : (port owner n : ℕ) (job : Job) → IsListed env mix performed.performs.caller (mem env mix performed.performs.words) performed.performs.ghost port owner n → (told then).0 ≡ Some job → taken_of job ≡ Some n
+          → TakesNodeOut env.geometry words_at port owner n did
+      takes-now port owner n job there is taken =
           let p = performed.performs in
           let more = applied p.words did.op in
           let G' = ghost_after env mix p.caller p.step.move p.ghost in
@@ -267,18 +269,20 @@ module _ (M : Type 0) (mix : ℕ → ℕ → ℕ → ℕ) (env : Env) where
           record {
             before =
                 subst (λ words. In n (nodes_of env.geometry words port)) before_is
-                (subst (In n) (sym (listed_bound env mix p.words p.ghost p.whole port)) there);
+                (subst (In n) (sym (listed_bound env mix p.words p.ghost p.whole port)) there.0);
             behind = λ listed.
                 untaken-bound env mix p.caller (mem env mix more) G' whole' port (G'.bound port) refl n
                 (subst (In n) (listed_bound env mix more G' whole' port)
                 (subst (λ words. In n (nodes_of env.geometry words port)) (sym behind_is) listed)) out;
+            owner_is = subst (λ words. owner_of (word_at env.geometry words (Node n OwnerWord)) ≡ owner) before_is there.1;
           }
 
       further : (job : Job) (n : ℕ) → HasTaken job n trace.steps → HasTaken job n steps
       further job n had = record {
         port = had.port;
+        owner = had.owner;
         removes = had.removes;
-        takes = Any-append_left (TakesNodeOut env.geometry words_at had.port n) trace.steps (did ∷ []) had.takes;
+        takes = Any-append_left (TakesNodeOut env.geometry words_at had.port had.owner n) trace.steps (did ∷ []) had.takes;
       }
 
       out-then : (job : Job) (n : ℕ) → job_of next.0.doing ≡ Some job → taken_of job ≡ Some n → HasTaken job n steps
@@ -290,8 +294,10 @@ module _ (M : Type 0) (mix : ℕ → ℕ → ℕ → ℕ) (env : Env) where
             | inl was ↦ further own_job n (keeps.out own_job n performed.does was)
             | inr now ↦ record {
               port = now.port;
+              owner = now.owner;
               removes = now.removes;
-              takes = Any-push (TakesNodeOut env.geometry words_at now.port n) trace.steps did (takes-now now.port n job now.bound is taken);
+              takes = Any-push (TakesNodeOut env.geometry words_at now.port now.owner n) trace.steps did
+                  (takes-now now.port now.owner n job (now.bound, now.owner_is) is taken);
             }
           ])
 
