@@ -26,38 +26,28 @@ fn a_failed_take_leaves_nothing_written(rt: HostRuntime) -> Result<(), Fail> {
 
 #[test]
 fn a_failed_put_leaves_the_lines_before_it(rt: HostRuntime) -> Result<(), Fail> {
-    // A run puts its five lines at once. A replay puts each line by itself.
-    let replayed =
-        "table single\n1 bind 80 100\n1 find 80\n1 release 80 100\n1 find 80\nfinish 1 4\n";
-    let lines = [
+    // A replay puts each line by itself, and the last two lines together.
+    let script = "table single\n1 bind 80 100\n1 find 80\nfinish 1 2\n";
+    let texts = [
         "",
         "1: bound\n",
         "1: bound\n1: found 100\n",
-        "1: bound\n1: found 100\n1: released\n",
-        "1: bound\n1: found 100\n1: released\n1: missing\n",
-        "1: bound\n1: found 100\n1: released\n1: missing\nsize 64 keys 0\n",
+        "1: bound\n1: found 100\nport 80: 100\nsize 64 keys 1\n",
     ];
-    let cases: [(&str, &str, &[&str]); 2] = [
-        ("run", SCRIPT, &[lines[0], lines[5]]),
-        ("replay", replayed, &lines),
-    ];
-    for (form, script, texts) in cases {
-        for i in 0..texts.len() {
-            let outside = Outside {
-                piece: 4096,
-                take: 0,
-                put: i as u64 + 1,
-                err: 0,
-            };
-            let left = run_on(&rt, rt.alloc(), &[form], script, outside)?;
-            // One put more than there are doesn't come, so none fails.
-            let (status, line) = if texts[i].ends_with("keys 0\n") {
-                (0, "")
-            } else {
-                (4, "rht: write failed\n")
-            };
-            assert_left(&rt, &left, status, texts[i], line, form);
-        }
+    for i in 0..4 {
+        let outside = Outside {
+            piece: 4096,
+            take: 0,
+            put: i as u64 + 1,
+            err: 0,
+        };
+        let left = run_on(&rt, rt.alloc(), &["replay"], script, outside)?;
+        let (status, line) = if i < 3 {
+            (4, "rht: write failed\n")
+        } else {
+            (0, "")
+        };
+        assert_left(&rt, &left, status, texts[i], line, script);
     }
     Ok(())
 }

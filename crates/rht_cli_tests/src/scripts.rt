@@ -68,9 +68,9 @@ fn scripts_are_served_and_others_refused(rt: HostRuntime) -> Result<(), Fail> {
         // a command tidies before, there is nothing left to do.
         (
             &["run"],
-            "table single max 4 hash low\n1 bind 0 1\n1 bind 1 1\n1 bind 2 1\n1 bind 3 1\n1 bind 4 1\n1 bind 5 1\n1 bind 6 1\n1 bind 7 1\n1 bind 8 1\n",
+            "table single max 4 hash low\n1 bind 0 9\n1 bind 1 9\n1 bind 2 9\n1 bind 3 9\n1 bind 4 9\n1 bind 5 9\n1 bind 6 9\n1 bind 7 9\n1 bind 8 9\n",
             0,
-            "1: bound\n1: bound\n1: bound\n1: bound\n1: bound\n1: bound\n1: bound\n1: bound\n1: toobig 8\nport 0: 1\nport 1: 1\nport 2: 1\nport 3: 1\nport 4: 1\nport 5: 1\nport 6: 1\nport 7: 1\nsize 4 keys 8\n",
+            "1: bound\n1: bound\n1: bound\n1: bound\n1: bound\n1: bound\n1: bound\n1: bound\n1: toobig 8\nport 0: 9\nport 1: 9\nport 2: 9\nport 3: 9\nport 4: 9\nport 5: 9\nport 6: 9\nport 7: 9\nsize 4 keys 8\n",
             "",
         ),
         (
