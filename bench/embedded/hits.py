@@ -20,7 +20,7 @@ def main(count, threads, rounds, nodes, pages, net):
     if threads != 1:
         sys.exit("hits: one thread alone is measured")
     ports = [rht.Port(number, net) for number in range(count)]
-    with rht.Table(nodes=nodes, pages=pages, hint=count) as table:
+    with rht.Table(nodes=nodes, pages=pages, hint=count, seed=1) as table:
         (seat,) = table.seats
         if not all(seat.bind(port, OWNER) for port in ports):
             sys.exit("hits: a port isn't bound")

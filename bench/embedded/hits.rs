@@ -89,7 +89,7 @@ fn main() -> Result<(), Box<dyn Error>> {
     let [count, threads, rounds, nodes, pages, net] = words[..] else {
         return Err("the words are PORTS THREADS ROUNDS NODES PAGES NET".into());
     };
-    let config = Config { nodes, pages, callers: threads, hint: count, ..Config::plain() };
+    let config = Config { nodes, pages, callers: threads, hint: count, seed: 1, ..Config::plain() };
     let table = Table::open(config)?;
     let (share, net) = (count / threads, u16::try_from(net)?);
     let mut seats: Vec<(Seat, Ports)> = (0..)
